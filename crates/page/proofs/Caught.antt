@@ -1,23 +1,22 @@
 -- What each is owed waits, whatever is done.
 use Rattle.std.proofs.Common.{◌≡◌, ◌⊎◌, ◌+◌, ℕ, zero, suc, Bool, true, false, List, [], ◌∷◌, ◌++◌, length, take, drop}
-use Rattle.std.proofs.Common.{Option, sym, ap, subst, ◌∙◌, inl, inr, arith, refl}
+use Rattle.std.proofs.Common.{sym, ap, subst, ◌∙◌, inl, inr, arith, refl}
 use Rattle.std.proofs.Common.{if◌then◌else◌}
-use Rattle.std.specs.List.{AllByRecursion}
-use Rattle.page.specs.declared.clients.client.Phase.{Phase}
-use Rattle.page.specs.declared.clients.client.Phase.TheVariants.{Asking, Live, Closing}
+use Rattle.page.specs.declared.clients.client.Phase.TheVariants.{Closing}
 use Rattle.page.specs.declared.guests.connection.Passed.{Passed}
 use Rattle.page.specs.declared.guests.guest.Guest.{Guest}
 use Rattle.page.specs.declared.guests.guest.Deed.{Deed}
 use Rattle.page.specs.declared.guests.guest.Deed.TheVariants.{CatchUp, Deliver, Tick, End}
 use Rattle.page.specs.declared.guests.room.Room.{Room}
+use Rattle.page.specs.declared.state.silence.Moment.{Moment}
 use Rattle.page.specs.Events.{Past}
 use Rattle.page.specs.State.{State}
 use Rattle.page.specs.Answers.{Source}
 use Rattle.page.specs.ClientView.{standing_of}
 use Rattle.page.specs.Talk.{Talk}
-use Rattle.page.specs.Sending.{Standing, IsLive, SaysAlive, owed}
+use Rattle.page.specs.Sending.{Standing, SaysAlive, owed}
 use Rattle.page.specs.Delivering.{IsCaughtUp}
-use Rattle.page.specs.Visits.{HearsThen, Does, TakesTurn, AllDo, AreCaughtUp}
+use Rattle.page.specs.Visits.{HearsThen, Does, AllDo, AreCaughtUp}
 use Rattle.page.specs.EventPlaces.{GivesEvents, HearsOne}
 use Rattle.page.specs.Places.{HasPlace, ComesIn}
 use Rattle.page.proofs.Visitors.{all_seam, all_join}
@@ -110,10 +109,10 @@ module _ {C : Type 0} (talk : C → Talk) (past : Past) where
 
   -- one is heard
   pub caught_heard : (origin numbered : C → ℕ) (reads : C → List ℕ → Passed → C → Type 0) (number : ℕ) (shown : State)
-      (seconds : Option ℕ) (own_only : Bool) (gs gs' : List (Guest C))
-      → HearsOne talk origin numbered reads number shown past seconds own_only gs gs' → AreCaughtUp past gs
+      (moment : Moment) (own_only : Bool) (gs gs' : List (Guest C))
+      → HearsOne talk origin numbered reads number shown past moment own_only gs gs' → AreCaughtUp past gs
       → AreCaughtUp past gs'
-  caught_heard origin numbered reads number shown seconds own_only gs gs' h all =
+  caught_heard origin numbered reads number shown moment own_only gs gs' h all =
       let P : List (Guest C) → Type 0 = λ xs. AreCaughtUp past xs in
       let parts = all_seam talk Caught h.before h.behind h.one (subst P h.among all) in
       caught_gives h.room h.heard gs' h.gives

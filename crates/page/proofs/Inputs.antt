@@ -12,13 +12,13 @@ use Rattle.page.specs.Input.{TakesLast, GoesOn, Ends}
 use Rattle.page.proofs.Handing.{stands_bytes, stands_cut, stands_first, all_lines_at_end}
 
 -- one line more was taken
-takes_more : (out : List (Option (List ℕ))) (told : Option (List ℕ)) (before between behind : Board) (taken : Taken)
-    → TakesAll out before between → TakesIn (bytes_left told) between behind taken
+takes_more : (out : List (Option (List ℕ))) (told : Option (List ℕ)) (came : ℕ) (before between behind : Board)
+    (taken : Taken) → TakesAll out before between → TakesIn (bytes_left told) came between behind taken
     → TakesAll (out ++ told ∷ []) before behind
-takes_more [] told before between behind taken same takes =
-    (behind, taken, subst (λ b. TakesIn (bytes_left told) b behind taken) same takes, refl)
-takes_more (first ∷ out) told before between behind taken (next, first_taken, first_takes, rest) takes =
-    (next, first_taken, first_takes, takes_more out told next between behind taken rest takes)
+takes_more [] told came before between behind taken same takes =
+    (came, behind, taken, subst (λ b. TakesIn (bytes_left told) came b behind taken) same takes, refl)
+takes_more (first ∷ out) told came before between behind taken (then, next, first_taken, first_takes, rest) takes =
+    (then, next, first_taken, first_takes, takes_more out told came next between behind taken rest takes)
 
 pub begins : (first : ℕ) (i : Intake) → board_of i ≡ at_start first → cutting_of i ≡ nothing_read → IntakeOf first [] i
 begins first i board cutting = record {
@@ -37,15 +37,15 @@ goes_on_with more i j none (cutting, board) first bytes so = record {
 }
 
 -- what was handed out last is what was taken
-takes_out : (cut : Cut) (out : List (Option (List ℕ))) (line : List ℕ) (before between behind : Board) (taken : Taken)
-    → (cut ≢ Nothing) → (cut ≡ TooLong → line ≡ []) → TakesAll out before between → TakesIn line between behind taken
-    → TakesAll (out ++ out_of cut line) before behind
-takes_out Line out line before between behind taken some over all takes =
-    takes_more out (Some line) before between behind taken all takes
-takes_out TooLong out line before between behind taken some over all takes =
-    takes_more out None before between behind taken all
-    (subst (λ l. TakesIn l between behind taken) (over refl) takes)
-takes_out Nothing out line before between behind taken some over all takes = absurd (some refl)
+takes_out : (cut : Cut) (out : List (Option (List ℕ))) (line : List ℕ) (came : ℕ) (before between behind : Board)
+    (taken : Taken) → (cut ≢ Nothing) → (cut ≡ TooLong → line ≡ []) → TakesAll out before between
+    → TakesIn line came between behind taken → TakesAll (out ++ out_of cut line) before behind
+takes_out Line out line came before between behind taken some over all takes =
+    takes_more out (Some line) came before between behind taken all takes
+takes_out TooLong out line came before between behind taken some over all takes =
+    takes_more out None came before between behind taken all
+    (subst (λ l. TakesIn l came between behind taken) (over refl) takes)
+takes_out Nothing out line came before between behind taken some over all takes = absurd (some refl)
 
 -- a line was handed out
 pub is_one : (cut : Cut) → (cut ≡ Line) ⊎ (cut ≡ TooLong) → cut ≢ Nothing
@@ -53,24 +53,26 @@ is_one cut (inl is) same = absurd (cc)
 is_one cut (inr is) same = absurd (cc)
 
 -- it is the line that was taken
-pub takes_next : (i j : Intake) (between : Cutting) (cut : Cut) (taken : Taken) → (cut ≡ Line) ⊎ (cut ≡ TooLong)
+pub takes_next : (came : ℕ) (i j : Intake) (between : Cutting) (cut : Cut) (taken : Taken)
+    → (cut ≡ Line) ⊎ (cut ≡ TooLong)
     → Cuts (cutting_of i) between cut → cutting_of j ≡ between
-    → TakesIn between.held.line (board_of i) (board_of j) taken → TakesNext i j (Some taken)
-takes_next i j between cut taken is cuts same takes = (
+    → TakesIn between.held.line came (board_of i) (board_of j) taken → TakesNext came i j (Some taken)
+takes_next came i j between cut taken is cuts same takes = (
   cut,
   is_one cut is,
   subst (λ x. Cuts (cutting_of i) x cut) (sym same) cuts,
-  subst (λ x. TakesIn x.held.line (board_of i) (board_of j) taken) (sym same) takes,
+  subst (λ x. TakesIn x.held.line came (board_of i) (board_of j) taken) (sym same) takes,
 )
 
-pub takes_last : (i j : Intake) (between : Cutting) (cut : Cut) (taken : Taken) → (cut ≡ Line) ⊎ (cut ≡ TooLong)
+pub takes_last : (came : ℕ) (i j : Intake) (between : Cutting) (cut : Cut) (taken : Taken)
+    → (cut ≡ Line) ⊎ (cut ≡ TooLong)
     → IsLast (cutting_of i).held between.held cut → cutting_of j ≡ between
-    → TakesIn between.held.line (board_of i) (board_of j) taken → TakesLast i j (Some taken)
-takes_last i j between cut taken is last same takes = (
+    → TakesIn between.held.line came (board_of i) (board_of j) taken → TakesLast came i j (Some taken)
+takes_last came i j between cut taken is last same takes = (
   cut,
   is_one cut is,
   subst (λ x. IsLast (cutting_of i).held x.held cut) (sym same) last,
-  subst (λ x. TakesIn x.held.line (board_of i) (board_of j) taken) (sym same) takes,
+  subst (λ x. TakesIn x.held.line came (board_of i) (board_of j) taken) (sym same) takes,
 )
 
 none_left : (x x' : Cutting) (cut : Cut) → Cuts x x' cut → cut ≡ TooLong → x'.held.line ≡ []
@@ -79,8 +81,8 @@ none_left x x' TooLong cuts same = cuts.handed.1
 none_left x x' Nothing cuts same = absurd (cc)
 
 -- the next line was taken, or none has ended
-pub goes_on_next : (i j : Intake) (answer : Option Taken) → TakesNext i j answer → GoesOn [] i j
-goes_on_next i j None (cuts, board) first bytes so = record {
+pub goes_on_next : (came : ℕ) (i j : Intake) (answer : Option Taken) → TakesNext came i j answer → GoesOn [] i j
+goes_on_next came i j None (cuts, board) first bytes so = record {
   out = so.out ++ [];
   stands =
       subst (λ b. Stands b (so.out ++ []) (cutting_of j)) (sym (append-nil bytes))
@@ -89,13 +91,13 @@ goes_on_next i j None (cuts, board) first bytes so = record {
       subst (λ o. TakesAll o (at_start first) (board_of j)) (sym (append-nil so.out))
       (subst (TakesAll so.out (at_start first)) (sym board) so.taken);
 }
-goes_on_next i j (Some taken) (cut, some, cuts, takes) first bytes so = record {
+goes_on_next came i j (Some taken) (cut, some, cuts, takes) first bytes so = record {
   out = so.out ++ out_of cut (cutting_of j).held.line;
   stands =
       subst (λ b. Stands b (so.out ++ out_of cut (cutting_of j).held.line) (cutting_of j)) (sym (append-nil bytes))
       (stands_cut bytes so.out (cutting_of i) (cutting_of j) cut so.stands cuts);
   taken =
-      takes_out cut so.out (cutting_of j).held.line (at_start first) (board_of i) (board_of j) taken some
+      takes_out cut so.out (cutting_of j).held.line came (at_start first) (board_of i) (board_of j) taken some
       (none_left (cutting_of i) (cutting_of j) cut cuts) so.taken takes;
 }
 
@@ -106,9 +108,9 @@ none_left_at_end TooLong x x' last same = last.1
 none_left_at_end Nothing x x' last same = absurd (cc)
 
 -- the last line was taken, or there is none
-pub ends_last : (i j : Intake) (answer : Option Taken) → (cutting_of i).ahead ≡ [] → TakesLast i j answer
-    → Ends [] i j
-ends_last i j None none (last, board) first bytes so = record {
+pub ends_last : (came : ℕ) (i j : Intake) (answer : Option Taken) → (cutting_of i).ahead ≡ []
+    → TakesLast came i j answer → Ends [] i j
+ends_last came i j None none (last, board) first bytes so = record {
   out = so.out ++ [];
   are_all =
       subst (λ b. AreAll b (so.out ++ [])) (sym (append-nil bytes))
@@ -117,12 +119,12 @@ ends_last i j None none (last, board) first bytes so = record {
       subst (λ o. TakesAll o (at_start first) (board_of j)) (sym (append-nil so.out))
       (subst (TakesAll so.out (at_start first)) (sym board) so.taken);
 }
-ends_last i j (Some taken) none (cut, some, last, takes) first bytes so = record {
+ends_last came i j (Some taken) none (cut, some, last, takes) first bytes so = record {
   out = so.out ++ out_of cut (cutting_of j).held.line;
   are_all =
       subst (λ b. AreAll b (so.out ++ out_of cut (cutting_of j).held.line)) (sym (append-nil bytes))
       (all_lines_at_end bytes so.out (cutting_of i) (cutting_of j).held cut so.stands none last);
   taken =
-      takes_out cut so.out (cutting_of j).held.line (at_start first) (board_of i) (board_of j) taken some
+      takes_out cut so.out (cutting_of j).held.line came (at_start first) (board_of i) (board_of j) taken some
       (none_left_at_end cut (cutting_of i) (cutting_of j) last) so.taken takes;
 }

@@ -10,6 +10,7 @@ pub mod Streams
 pub mod Schedules
 pub mod Delivered
 pub mod Told
+pub mod Stale
 pub mod Fields
 pub mod Heard
 pub mod Lives

@@ -1,11 +1,10 @@
 -- The main service of a set is one, by whichever number it is told.
-use Rattle.std.proofs.Common.{◌≡◌, ◌⊎◌, inl, inr, ℕ, ◌-◌, ◌==◌, Bool, true, false, cond, not, ◌||◌, ◌&&◌}
-use Rattle.std.proofs.Common.{List, [], ◌∷◌, map, refl, ◌∙◌, ap, sym, arith}
+use Rattle.std.proofs.Common.{◌≡◌, inl, inr, ℕ, ◌==◌, Bool, true, false, cond, ◌||◌, ◌&&◌}
+use Rattle.std.proofs.Common.{[], ◌∷◌, map, refl, ◌∙◌, ap, sym, arith}
 use Rattle.std.specs.Prelude.{codes, unwrap_or}
-use Rattle.std.specs.List.{list_any}
 use Rattle.serde_json.specs.Data.{Data}
 use Rattle.page.specs.Members.{number_at, number_or_0}
-use Rattle.page.specs.Shown.{Service, new_service, is_element, is_shown, is_stored, tells, told, is_in, is_main}
+use Rattle.page.specs.Shown.{Service, new_service, is_element, is_shown, is_stored, tells, told, is_main}
 use Rattle.page.specs.Shown.{names_set, is_meant, told_if, with_new, told_services}
 use Rattle.page.specs.Air.{Air, set_of, after_telling}
 use Rattle.page.specs.CardLaws.{MainOnce}

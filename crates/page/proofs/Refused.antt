@@ -21,9 +21,9 @@ nothing_read d same = absurd (cc)
 stays : (out : List (Option (List ℕ))) (before behind : Board) → TakesAll out before behind → before.refused ≡ true
     → behind.refused ≡ true
 stays [] before behind same refused = subst (λ b. b.refused ≡ true) (sym same) refused
-stays (told ∷ out) before behind (next, taken, (Ours text, takes, (adds, kept), count), rest) refused =
+stays (told ∷ out) before behind (came, next, taken, (Ours text, takes, (adds, kept), count), rest) refused =
     stays out next behind rest (kept ∙ refused)
-stays (told ∷ out) before behind (next, taken, (Other, takes, (is, past, kept), count), rest) refused =
+stays (told ∷ out) before behind (came, next, taken, (Other, takes, (is, past, kept), count), rest) refused =
     stays out next behind rest kept
 
 is_ours : (told : Option (List ℕ)) (d : Data) → IsOurs (bytes_left told) d → IsOurLine told
@@ -44,9 +44,9 @@ has_other : (out : List (Option (List ℕ))) (before behind : Board) → TakesAl
 has_other [] before behind same fresh =
     subst (λ b. HasOther [] b.refused) (sym same) (subst (HasOther []) (sym fresh) (All-nil IsOurLine))
 has_other (told ∷ out) before behind
-    (next, taken, (Ours text, (d, ours, shown, said, again), (adds, kept), count), rest) fresh =
+    (came, next, taken, (Ours text, (d, ours, shown, said, again), (adds, kept), count), rest) fresh =
     more told out behind.refused (is_ours told d ours) (has_other out next behind rest (kept ∙ fresh))
-has_other (told ∷ out) before behind (next, taken, (Other, (shown, none), (is, past, kept), count), rest) fresh =
+has_other (told ∷ out) before behind (came, next, taken, (Other, (shown, none), (is, past, kept), count), rest) fresh =
     subst (HasOther (told ∷ out)) (sym (stays out next behind rest kept))
     (0, told, omega arith, refl, is_other told none)
 

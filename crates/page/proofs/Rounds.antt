@@ -3,7 +3,6 @@ use Rattle.std.proofs.Common.{◌≡◌, ◌≤◌, ◌<◌, ◌+◌, ◌⊎◌,
 use Rattle.std.proofs.Common.{take, drop}
 use Rattle.std.proofs.Common.{refl, sym, ap, subst, ◌∙◌, inl, inr, arith, length-append, append_assoc, get_or, set}
 use Rattle.std.proofs.Common.{cond}
-use Rattle.std.proofs.Common.{Option}
 use Rattle.std.specs.List.{AllByRecursion}
 use Rattle.std.proofs.lemmas.Bool.{cases_lt}
 use Rattle.std.proofs.lemmas.List.{append-nil, get_or-map, get_or-set_other, get_or_read, length-map, length-set}
@@ -11,6 +10,7 @@ use Rattle.std.proofs.Math.Seq.{get_or-append_seam, set-append_seam, take-append
 use Rattle.page.specs.declared.guests.connection.Passed.{Passed}
 use Rattle.page.specs.declared.guests.guest.Guest.{Guest}
 use Rattle.page.specs.declared.guests.guest.Deed.{Deed}
+use Rattle.page.specs.declared.state.silence.Moment.{Moment}
 use Rattle.page.specs.Events.{Past}
 use Rattle.page.specs.State.{State}
 use Rattle.page.specs.Answers.{Source}
@@ -136,42 +136,42 @@ module _ {C : Type 0} (talk : C → Talk) (reads : C → List ℕ → Passed →
       ]
 
   -- the source of one that is heard, where there is this place of events
-  abbrev pub source_in : State → Past → (seconds : Option ℕ) → Room → Source
-  source_in shown past seconds room = record {
+  abbrev pub source_in : State → Past → Moment → Room → Source
+  source_in shown past moment room = record {
     shown = shown;
     past = past;
-    seconds = seconds;
+    moment = moment;
     is_full = is_full room;
   }
 
   -- by what the calls said
-  pub heard_from : (shown : State) (past : Past) (seconds : Option ℕ) (own_only own_only' full : Bool) (room : Room)
+  pub heard_from : (shown : State) (past : Past) (moment : Moment) (own_only own_only' full : Bool) (room : Room)
       (now : List (Guest C)) (place : ℕ) (g g' : Guest C) (stays : Bool) (source : Source)
-      → source ≡ record { shown = shown; past = past; seconds = seconds; is_full = full }
+      → source ≡ record { shown = shown; past = past; moment = moment; is_full = full }
       → full ≡ is_full room → own_only' ≡ own_only → g ≡ get_or now place g
       → HearsThen talk reads source own_only' g stays g'
-      → HearsThen talk reads (source_in shown past seconds room) own_only (get_or now place g) stays g'
-  heard_from shown past seconds own_only own_only' full room now place g g' stays source source_is full_is own_is is
+      → HearsThen talk reads (source_in shown past moment room) own_only (get_or now place g) stays g'
+  heard_from shown past moment own_only own_only' full room now place g g' stays source source_is full_is own_is is
       hears =
-      let all : source ≡ source_in shown past seconds room = source_is
-      ∙ ap (λ (b : Bool). let s : Source = record { shown = shown; past = past; seconds = seconds; is_full = b } in s)
+      let all : source ≡ source_in shown past moment room = source_is
+      ∙ ap (λ (b : Bool). let s : Source = record { shown = shown; past = past; moment = moment; is_full = b } in s)
       full_is in
       let P : Source → Type 0 = λ s. HearsThen talk reads s own_only' g stays g' in
-      let Q : Bool → Type 0 = λ b. HearsThen talk reads (source_in shown past seconds room) b g stays g' in
-      let R : Guest C → Type 0 = λ h. HearsThen talk reads (source_in shown past seconds room) own_only h stays g' in
+      let Q : Bool → Type 0 = λ b. HearsThen talk reads (source_in shown past moment room) b g stays g' in
+      let R : Guest C → Type 0 = λ h. HearsThen talk reads (source_in shown past moment room) own_only h stays g' in
       subst R is (subst Q own_is (subst P all hears))
 
-  pub heard_lived : (shown : State) (past : Past) (seconds : Option ℕ) (own_only : Bool) (room : Room)
+  pub heard_lived : (shown : State) (past : Past) (moment : Moment) (own_only : Bool) (room : Room)
       (now : List (Guest C)) (place : ℕ) (d g' : Guest C) (stays : Bool) → AreServed talk own_only past now
       → place < length now
-      → HearsThen talk reads (source_in shown past seconds room) own_only (get_or now place d) stays g'
+      → HearsThen talk reads (source_in shown past moment room) own_only (get_or now place d) stays g'
       → GuestLives talk own_only past g'
-  heard_lived shown past seconds own_only room now place d g' stays served more hears =
+  heard_lived shown past moment own_only room now place d g' stays served more hears =
       let a = among_at now place d more in
       let P : List (Guest C) → Type 0 = λ xs. AreServed talk own_only past xs in
       let parts = all_seam talk (GuestLives talk own_only past) a.kept a.rest (get_or now place d)
       (subst P a.now_is served).lives in
-      then_lives (source_in shown past seconds room) own_only (get_or now place d) stays g' parts.1 hears
+      then_lives (source_in shown past moment room) own_only (get_or now place d) stays g' parts.1 hears
 
   given_live : (origin : C → ℕ) (from place : ℕ) (now : List (Guest C)) (d : Guest C) → place < length now
       → IsSeatGiven from place (seats_of origin Events now)
@@ -242,18 +242,18 @@ module _ {C : Type 0} (talk : C → Talk) (reads : C → List ℕ → Passed →
       inl (omega (arith, few, both, less))
   over_or_not origin from Full now place d g' few more has (inr free) = cc
 
-  pub heard_stays : (origin : C → ℕ) (from : ℕ) (shown : State) (past : Past) (seconds : Option ℕ) (own_only : Bool)
+  pub heard_stays : (origin : C → ℕ) (from : ℕ) (shown : State) (past : Past) (moment : Moment) (own_only : Bool)
       (room : Room) (now : List (Guest C)) (place : ℕ) (d g' : Guest C) → AreServed talk own_only past now
       → place < length now → HasRoom origin from now room
-      → HearsThen talk reads (source_in shown past seconds room) own_only (get_or now place d) true g'
+      → HearsThen talk reads (source_in shown past moment room) own_only (get_or now place d) true g'
       → AreHeard talk room own_only past (set now place g')
-  heard_stays origin from shown past seconds own_only room now place d g' served more has hears =
+  heard_stays origin from shown past moment own_only room now place d g' served more has hears =
       let g = get_or now place d in
       let a = among_at now place d more in
       let is = set_among now place g g' a in
       let L : Guest C → Type 0 = λ h. GuestLives talk own_only past h in
       let P : List (Guest C) → Type 0 = λ xs. AllByRecursion L xs in
-      let lives = heard_lived shown past seconds own_only room now place d g' true served more hears in
+      let lives = heard_lived shown past moment own_only room now place d g' true served more hears in
       let long : length (set now place g') ≡ length now = length-set now place g' in
       let few = served.few in
       record {
@@ -262,7 +262,7 @@ module _ {C : Type 0} (talk : C → Talk) (reads : C → List ℕ → Passed →
         few = omega (arith, few, long);
         live_few =
             over_or_not origin from room now place d g' served.live_few more has
-            (then_free (source_in shown past seconds room) own_only g g' hears);
+            (then_free (source_in shown past moment room) own_only g g' hears);
       }
 
   pub heard_goes : (past : Past) (own_only : Bool) (now : List (Guest C)) (place : ℕ) (d g' : Guest C)
@@ -286,14 +286,14 @@ module _ {C : Type 0} (talk : C → Talk) (reads : C → List ℕ → Passed →
       subst (λ n. HasRoom origin n now room) same has
 
   -- what became of the one, and that the others stand as they stood
-  pub heard_one : (origin numbered : C → ℕ) (number : ℕ) (shown : State) (past : Past) (seconds : Option ℕ)
+  pub heard_one : (origin numbered : C → ℕ) (number : ℕ) (shown : State) (past : Past) (moment : Moment)
       (own_only : Bool) (room : Room) (now : List (Guest C)) (place : ℕ) (d g' : Guest C) (now' : List (Guest C))
       → place < length now → numbered (get_or now place d).connection ≡ number
       → HasRoom origin (origin (get_or now place d).connection) now room
-      → HearsThen talk reads (source_in shown past seconds room) own_only (get_or now place d) true g'
+      → HearsThen talk reads (source_in shown past moment room) own_only (get_or now place d) true g'
       → GivesEvents room (set now place g') now'
-      → HearsOne talk origin numbered reads number shown past seconds own_only now now'
-  heard_one origin numbered number shown past seconds own_only room now place d g' now' more named has hears gives =
+      → HearsOne talk origin numbered reads number shown past moment own_only now now'
+  heard_one origin numbered number shown past moment own_only room now place d g' now' more named has hears gives =
       let a = among_at now place d more in
       record {
         before = a.kept;
@@ -311,15 +311,15 @@ module _ {C : Type 0} (talk : C → Talk) (reads : C → List ℕ → Passed →
         gives = gives;
       }
 
-  pub heard_gone : (origin numbered : C → ℕ) (number : ℕ) (shown : State) (past : Past) (seconds : Option ℕ)
+  pub heard_gone : (origin numbered : C → ℕ) (number : ℕ) (shown : State) (past : Past) (moment : Moment)
       (own_only : Bool) (room : Room) (now : List (Guest C)) (place : ℕ) (d g' : Guest C) (now' : List (Guest C))
       → AreServed talk own_only past now
       → place < length now → numbered (get_or now place d).connection ≡ number
       → HasRoom origin (origin (get_or now place d).connection) now room
-      → HearsThen talk reads (source_in shown past seconds room) own_only (get_or now place d) false g'
+      → HearsThen talk reads (source_in shown past moment room) own_only (get_or now place d) false g'
       → now' ≡ take place (set now place g') ++ drop (place + 1) (set now place g')
-      → HearsOne talk origin numbered reads number shown past seconds own_only now now'
-  heard_gone origin numbered number shown past seconds own_only room now place d g' now' served more named has hears
+      → HearsOne talk origin numbered reads number shown past moment own_only now now'
+  heard_gone origin numbered number shown past moment own_only room now place d g' now' served more named has hears
       is =
       let a = among_at now place d more in
       let left = take place (set now place g') ++ drop (place + 1) (set now place g') in

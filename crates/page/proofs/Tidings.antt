@@ -29,19 +29,21 @@ came : (took : Took) (before behind : Board) (taken : Taken) → Comes took befo
 came (Ours text) before behind taken comes = added _ before.past behind.past taken comes.0
 came OtherLine before behind taken comes = inl comes.1
 
-taken_in : (line : List ℕ) (before behind : Board) (taken : Taken) → TakesIn line before behind taken
+taken_in : (line : List ℕ) (time : ℕ) (before behind : Board) (taken : Taken) → TakesIn line time before behind taken
     → Grows before.past behind.past
-taken_in line before behind taken (took, takes, comes, count) = came took before behind taken comes
+taken_in line time before behind taken (took, takes, comes, count) = came took before behind taken comes
 
-next : (before behind : Intake) (taken : Option Taken) → TakesNext before behind taken
+next : (time : ℕ) (before behind : Intake) (taken : Option Taken) → TakesNext time before behind taken
     → Grows (board_of before).past (board_of behind).past
-next before behind None takes = inl (ap (λ (b : Board). b.past) takes.1)
-next before behind (Some taken) (cut, some, cuts, takes) = taken_in _ (board_of before) (board_of behind) taken takes
+next time before behind None takes = inl (ap (λ (b : Board). b.past) takes.1)
+next time before behind (Some taken) (cut, some, cuts, takes) =
+    taken_in _ time (board_of before) (board_of behind) taken takes
 
-last : (before behind : Intake) (taken : Option Taken) → TakesLast before behind taken
+last : (time : ℕ) (before behind : Intake) (taken : Option Taken) → TakesLast time before behind taken
     → Grows (board_of before).past (board_of behind).past
-last before behind None takes = inl (ap (λ (b : Board). b.past) takes.1)
-last before behind (Some taken) (cut, some, cuts, takes) = taken_in _ (board_of before) (board_of behind) taken takes
+last time before behind None takes = inl (ap (λ (b : Board). b.past) takes.1)
+last time before behind (Some taken) (cut, some, cuts, takes) =
+    taken_in _ time (board_of before) (board_of behind) taken takes
 
 -- No line became an event, and what is kept is as it was.
 not_added : (text : List ℕ) (past past' : Past) (taken : Taken) → Adds text past past' taken → (taken ≡ Event → ⊥)
@@ -55,9 +57,9 @@ no_event : (took : Took) (before behind : Board) (taken : Taken) → Comes took 
 no_event (Ours text) before behind taken comes none = not_added _ before.past behind.past taken comes.0 none
 no_event OtherLine before behind taken comes none = comes.1
 
-pub kept_in : (line : List ℕ) (before behind : Board) (taken : Taken) → TakesIn line before behind taken
-    → (taken ≡ Event → ⊥) → behind.past ≡ before.past
-kept_in line before behind taken (took, takes, comes, count) none = no_event took before behind taken comes none
+pub kept_in : (line : List ℕ) (time : ℕ) (before behind : Board) (taken : Taken)
+    → TakesIn line time before behind taken → (taken ≡ Event → ⊥) → behind.past ≡ before.past
+kept_in line time before behind taken (took, takes, comes, count) none = no_event took before behind taken comes none
 
 module _ {C : Type 0} (talk : C → Talk) where
   pub served_as : (past past' : Past) (guests : Guests C) → past' ≡ past → AllServed talk past guests
@@ -73,17 +75,17 @@ module _ {C : Type 0} (talk : C → Talk) where
       served_as (with_line past line) past' guests is
       (served_line talk guests.own_only past line (guests_of guests) served)
 
-  pub served_next : (before behind : Intake) (taken : Option Taken) (guests : Guests C)
-      → TakesNext before behind taken → AllServed talk (board_of before).past guests
+  pub served_next : (time : ℕ) (before behind : Intake) (taken : Option Taken) (guests : Guests C)
+      → TakesNext time before behind taken → AllServed talk (board_of before).past guests
       → AllServed talk (board_of behind).past guests
-  served_next before behind taken guests takes served =
-      served_grown (board_of before).past (board_of behind).past guests (next before behind taken takes) served
+  served_next time before behind taken guests takes served =
+      served_grown (board_of before).past (board_of behind).past guests (next time before behind taken takes) served
 
-  pub served_last : (before behind : Intake) (taken : Option Taken) (guests : Guests C)
-      → TakesLast before behind taken → AllServed talk (board_of before).past guests
+  pub served_last : (time : ℕ) (before behind : Intake) (taken : Option Taken) (guests : Guests C)
+      → TakesLast time before behind taken → AllServed talk (board_of before).past guests
       → AllServed talk (board_of behind).past guests
-  served_last before behind taken guests takes served =
-      served_grown (board_of before).past (board_of behind).past guests (last before behind taken takes) served
+  served_last time before behind taken guests takes served =
+      served_grown (board_of before).past (board_of behind).past guests (last time before behind taken takes) served
 
   pub served_nobody : (past : Past) (guests : Guests C) → guests_of guests ≡ [] → AllServed talk past guests
   served_nobody past guests none =

@@ -1,7 +1,8 @@
 -- What was told of a text that was to be.
 use Rattle.std.proofs.Common.{◌≡◌, ℕ, Bool, true, false, List, [], ◌++◌, length, ◌∙◌, ap, sym, refl, subst}
-use Rattle.std.proofs.Common.{inl, inr, Option, Result, Ok, Err}
+use Rattle.std.proofs.Common.{inl, inr, Option, Result, Ok, Err, cond}
 use Rattle.std.specs.Prelude.{OnOk, OnErr, ◌⊎◌, not, if◌then◌else◌, codes}
+use Rattle.std.specs.List.{list_any}
 use Rattle.std.proofs.lemmas.List.{append-nil, append_assoc}
 use Rattle.http1.specs.declared.conn.BodySize.TheVariants.{Known, Unknown}
 use Rattle.http1.specs.declared.conn.Writing.{Writing}
@@ -13,12 +14,16 @@ use Rattle.http1.specs.Server.{writing, with_writing}
 use Rattle.page.specs.declared.clients.client.Phase.TheVariants.{Closing}
 use Rattle.page.specs.declared.clients.request.Route.{Route}
 use Rattle.page.specs.declared.clients.request.Route.TheVariants.{Events}
+use Rattle.page.specs.declared.state.silence.Moment.{Moment}
+use Rattle.page.specs.ControlLine.{Line}
+use Rattle.page.specs.Silence.{is_stale}
+use Rattle.page.specs.Texts.{stale_texts}
 use Rattle.page.specs.Events.{Past, is_gap, due}
 use Rattle.page.specs.Stream.{part_text, gap}
 use Rattle.page.specs.Sending.{Standing, IsLive}
 use Rattle.page.specs.Streaming.{IsStreaming}
 use Rattle.page.specs.Answers.{Source, Answer, given, plain, answer_of, no_memory, head_text, behind_head, answer_text}
-use Rattle.page.specs.Answers.{opening_text, reply_text, Tells, Replies}
+use Rattle.page.specs.Answers.{health, opening_text, reply_text, Tells, Replies}
 
 pub told_none : (text o o' : List ℕ) → o' ≡ o → Tells text o o'
 told_none text o o' h = record { told = []; rest = text; output = h ∙ sym (append-nil o); is_part = refl }
@@ -90,6 +95,29 @@ pub with_reason : (s : Server) (status : ℕ) (reason reason' body o o' : List �
 with_reason s status reason reason' body o o' h is =
     let P : List ℕ → Type 0 = λ r. Tells (answer_text s (plain status r body)) o o' in
     subst P is h
+
+-- no control line is stale
+pub told_well : (moment : Moment) (ls : List Line) (s : Server) (b : Bool) (o o' : List ℕ)
+    → b ≡ list_any (is_stale moment) ls → b ≡ false
+    → Tells (answer_text s (given (codes "text/plain; charset=utf-8") (codes "ok\n"))) o o'
+    → Tells (answer_text s (health moment ls)) o o'
+told_well moment ls s b o o' is well h =
+    let P : Bool → Type 0 = λ t. Tells (answer_text s (cond t
+    (plain 503 (codes "Service Unavailable") (stale_texts moment ls))
+    (given (codes "text/plain; charset=utf-8") (codes "ok\n")))) o o' in
+    subst P (sym well ∙ is) h
+
+-- one is
+pub told_stale : (moment : Moment) (ls : List Line) (s : Server) (b : Bool) (body o o' : List ℕ)
+    → b ≡ list_any (is_stale moment) ls → b ≡ true → body ≡ stale_texts moment ls
+    → Tells (answer_text s (plain 503 (codes "Service Unavailable") body)) o o'
+    → Tells (answer_text s (health moment ls)) o o'
+told_stale moment ls s b body o o' is some same h =
+    let P : Bool → Type 0 = λ t. Tells (answer_text s (cond t
+    (plain 503 (codes "Service Unavailable") (stale_texts moment ls))
+    (given (codes "text/plain; charset=utf-8") (codes "ok\n")))) o o' in
+    let Q : List ℕ → Type 0 = λ text. Tells (answer_text s (plain 503 (codes "Service Unavailable") text)) o o' in
+    subst P (sym some ∙ is) (subst Q same h)
 
 -- no more may get events
 pub told_full : (source : Source) (s : Server) (last : Option ℕ) (o o' : List ℕ) → source.is_full ≡ true

@@ -15,7 +15,7 @@ use Rattle.page.specs.declared.guests.guest.Guest.{Guest}
 use Rattle.page.specs.declared.guests.guest.Deed.{Deed}
 use Rattle.page.specs.declared.guests.guest.Deed.TheVariants.{CatchUp, Deliver, Tick, End}
 use Rattle.page.specs.Events.{Event, Past, with_line}
-use Rattle.page.specs.Sending.{Standing, IsLive, Delivers, owed}
+use Rattle.page.specs.Sending.{Standing, IsLive, Delivers}
 use Rattle.page.specs.Answers.{Source}
 use Rattle.page.specs.Hearing.{Hears}
 use Rattle.page.specs.ClientView.{standing_of, came_of}

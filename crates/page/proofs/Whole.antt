@@ -6,6 +6,7 @@ use Rattle.serde_json.specs.View.{items_of}
 use Rattle.serde_json.specs.Written.{has_float, items_have_float}
 use Rattle.page.specs.Shown.{Service}
 use Rattle.page.specs.Link.{Linked, Refusal}
+use Rattle.page.specs.declared.state.silence.Moment.{Moment}
 use Rattle.page.specs.ControlLine.{Line}
 use Rattle.page.specs.State.{State}
 use Rattle.page.specs.Texts.{text_data, flag_data, number_data, service_data, services_data, link_data, since_data}
@@ -42,16 +43,16 @@ no_refused : (o : Option Refusal) → has_float (refused_data o) ≡ false
 no_refused None = refl
 no_refused (Some r) = rw (no_text r.meaning, no_text r.time) refl
 
-no_line : (l : Line) → has_float (line_data l) ≡ false
-no_line l =
+no_line : (now : ℕ) (l : Line) → has_float (line_data now l) ≡ false
+no_line now l =
     rw (no_text l.heard, no_link l.linked, no_refused l.refused, no_services l.air.services, no_since l.linked) refl
 
-no_lines : (ls : List Line) → items_have_float (lines_data ls) ≡ false
-no_lines [] = refl
-no_lines (l ∷ ls) = rw (no_line l, no_lines ls) refl
+no_lines : (now : ℕ) (ls : List Line) → items_have_float (lines_data now ls) ≡ false
+no_lines now [] = refl
+no_lines now (l ∷ ls) = rw (no_line now l, no_lines now ls) refl
 
-pub no_float : (s : State) → has_float (state_data s) ≡ false
-no_float s = rw (no_lines s.lines) refl
+pub no_float : (moment : Moment) (s : State) → has_float (state_data moment s) ≡ false
+no_float moment s = rw (no_lines moment.now s.lines, no_number moment.stale) refl
 
 -- the objects of services, and of control lines
 pub each_service : {X : Type 0} (f : X → Service) (xs : List X)
@@ -59,10 +60,10 @@ pub each_service : {X : Type 0} (f : X → Service) (xs : List X)
 each_service f [] = refl
 each_service f (x ∷ xs) = ap (item (service_data (f x))) (each_service f xs)
 
-pub each_line : {X : Type 0} (f : X → Line) (xs : List X)
-    → items_of (map (λ x. line_data (f x)) xs) ≡ lines_data (map f xs)
-each_line f [] = refl
-each_line f (x ∷ xs) = ap (item (line_data (f x))) (each_line f xs)
+pub each_line : {X : Type 0} (now : ℕ) (f : X → Line) (xs : List X)
+    → items_of (map (λ x. line_data now (f x)) xs) ≡ lines_data now (map f xs)
+each_line now f [] = refl
+each_line now f (x ∷ xs) = ap (item (line_data now (f x))) (each_line now f xs)
 
 -- what was added in parts
 pub in_two : (t0 t1 t2 p1 p2 : List ℕ) → t1 ≡ t0 ++ p1 → t2 ≡ t1 ++ p2 → t2 ≡ t0 ++ (p1 ++ p2)

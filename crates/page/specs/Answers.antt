@@ -1,6 +1,7 @@
 -- What a connection is told that asks for something (profile; RFC 9110, section 15).
 use Rattle.std.specs.Prelude.{◌≡◌, ℕ, Bool, true, false, not, ◌==◌, ◌⊎◌, List, [], ◌∷◌, ◌++◌, length, codes, Option}
 use Rattle.std.specs.Prelude.{if◌then◌else◌}
+use Rattle.std.specs.List.{list_any}
 use Rattle.serde_json.specs.Written.{compact_text}
 use Rattle.http1.specs.declared.conn.BodySize.{BodySize}
 use Rattle.http1.specs.declared.conn.BodySize.TheVariants.{Known, Unknown}
@@ -15,19 +16,22 @@ use Rattle.page.specs.declared.clients.html.TheConstants.{HTML, POLICY}
 use Rattle.page.specs.declared.clients.request.Route.{Route}
 use Rattle.page.specs.declared.clients.request.Route.TheVariants.{Page, Events, State, Metrics, Health, NotFound}
 use Rattle.page.specs.declared.clients.request.Route.TheVariants.{OtherMethod, Foreign}
+use Rattle.page.specs.declared.state.silence.Moment.{Moment}
+use Rattle.page.specs.ControlLine.{Line}
 use Rattle.page.specs.State.{State as Shown}
-use Rattle.page.specs.Texts.{state_data, metrics}
+use Rattle.page.specs.Silence.{is_stale}
+use Rattle.page.specs.Texts.{state_data, metrics, stale_texts}
 use Rattle.page.specs.Events.{Past, is_gap, due}
 use Rattle.page.specs.Stream.{part_text, gap}
 use Rattle.page.specs.Sending.{Standing, IsLive}
 use Rattle.page.specs.Streaming.{IsStreaming}
 
--- What a connection is answered from: what is shown, the last events, how many seconds ago the last message came, where
--- one did, and whether no more connections may get events.
+-- What a connection is answered from: what is shown, the last events, the moment at which it is heard, and whether no
+-- more connections may get events.
 pub record Source : Type 0 where
   pub shown : Shown
   pub past : Past
-  pub seconds : Option ℕ
+  pub moment : Moment
   pub is_full : Bool
 
 -- An answer: its status and the reason of that, and its body with the media type.
@@ -45,14 +49,20 @@ abbrev pub plain : ℕ → (reason body : List ℕ) → Answer
 plain status reason body =
     record { status = status; reason = reason; kind = codes "text/plain; charset=utf-8"; body = body }
 
+-- That all is well; or where control lines are stale which, and for how many seconds nothing was told of each.
+abbrev pub health : Moment → List Line → Answer
+health moment ls =
+    if list_any (is_stale moment) ls then plain 503 (codes "Service Unavailable") (stale_texts moment ls)
+    else given (codes "text/plain; charset=utf-8") (codes "ok\n")
+
 -- The answer to what is asked for; to one who asks for events, where no more may get them.
 abbrev pub answer_of : Source → Route → Answer
 answer_of source Page = given (codes "text/html; charset=utf-8") HTML.now
 answer_of source Events = plain 503 (codes "Service Unavailable") (codes "64 get the events already\n")
-answer_of source State = given (codes "application/json") (compact_text (state_data source.shown))
+answer_of source State = given (codes "application/json") (compact_text (state_data source.moment source.shown))
 answer_of source Metrics =
-    given (codes "text/plain; version=0.0.4; charset=utf-8") (metrics source.shown source.seconds)
-answer_of source Health = given (codes "text/plain; charset=utf-8") (codes "ok\n")
+    given (codes "text/plain; version=0.0.4; charset=utf-8") (metrics source.shown source.moment)
+answer_of source Health = health source.moment source.shown.lines
 answer_of source NotFound = plain 404 (codes "Not Found") (codes "no such page\n")
 answer_of source OtherMethod = plain 405 (codes "Method Not Allowed") (codes "only GET and HEAD are served\n")
 answer_of source Foreign =

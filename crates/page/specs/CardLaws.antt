@@ -7,25 +7,26 @@ use Rattle.page.specs.Members.{name_of, number_or_0}
 use Rattle.page.specs.Shown.{is_element, is_stored, tells, told, names_set, new_service}
 use Rattle.page.specs.Air.{Air, set_of, after_telling}
 use Rattle.page.specs.Counts.{Counts, counted, is_kind, is_sent}
-use Rattle.page.specs.ControlLine.{Line, new_line, is_named, line_after, line_behind}
+use Rattle.page.specs.ControlLine.{Arrived, Line, new_line, is_named, line_after, line_behind}
 use Rattle.page.specs.State.{State, at_first, shown_of}
 
 -- Of objects those that name this control line.
-abbrev pub of_line : (name : List ℕ) → List Data → List Data
-of_line name ds = filter (λ d. bytes_eq (name_of d) name) ds
+abbrev pub of_line : (name : List ℕ) → List Arrived → List Arrived
+of_line name ds = filter (λ d. bytes_eq (name_of d.object) name) ds
 
 -- What these make of it where nothing else was told.
-abbrev pub alone : (name : List ℕ) → List Data → Line
+abbrev pub alone : (name : List ℕ) → List Arrived → Line
 alone name ds = line_behind (of_line name ds) (new_line name)
 
 -- What is shown under this name.
 abbrev pub card : (name : List ℕ) → State → Option Line
 card name s = find (is_named name) s.lines
 
--- Law: what is shown of a control line is what the objects that name it make of it, whatever was told of others; it is
--- not shown only where none named it, or where objects were of a further one.
+-- Law: what is shown of a control line is what the objects that name it make of it, with the times at which they came,
+-- whatever was told of others, and whenever; it is not shown only where none named it, or where objects were of a
+-- further one.
 abbrev pub LineAlone : Type 0
-LineAlone = (ds : List Data) (name : List ℕ) → let s = shown_of ds at_first in
+LineAlone = (ds : List Arrived) (name : List ℕ) → let s = shown_of ds at_first in
     (card name s ≡ Some (alone name ds)) ⊎ ((card name s ≡ None) × ((of_line name ds ≡ []) ⊎ (s.further ≢ 0)))
 
 -- None has the name of one before it.
@@ -35,13 +36,13 @@ AreDistinct (l ∷ ls) = (find (is_named l.name) ls ≡ None) × AreDistinct ls
 
 -- Law: no control line is shown twice.
 abbrev pub LineOnce : Type 0
-LineOnce = (ds : List Data) → AreDistinct (shown_of ds at_first).lines
+LineOnce = (ds : List Arrived) → AreDistinct (shown_of ds at_first).lines
 
 -- Law: behind a store, and whatever comes behind that, nothing is on the air that was told before.
 abbrev pub StoreClears : Type 0
-StoreClears = (d : Data) (l l' : Line) → is_kind (codes "store") d ≡ true → l.air.answers ≡ l'.air.answers
+StoreClears = (d : Arrived) (l l' : Line) → is_kind (codes "store") d.object ≡ true → l.air.answers ≡ l'.air.answers
     → ((line_after d l).air.services ≡ []) × ((line_after d l).air.frame ≡ None)
-    × ((ds : List Data) → (line_behind (d ∷ ds) l).air ≡ (line_behind (d ∷ ds) l').air)
+    × ((ds : List Arrived) → (line_behind (d ∷ ds) l).air ≡ (line_behind (d ∷ ds) l').air)
 
 -- Law: behind a store, the service of a set that is told first is the main one there: what is told by 0 and what is
 -- told by its number are told of that one service, whether the set is named itself or is one of those that are meant.

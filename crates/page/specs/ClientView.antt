@@ -18,6 +18,6 @@ abbrev pub source_of : Site → Source
 source_of s = record {
   shown = state_of s.page.now;
   past = s.history.now;
-  seconds = s.seconds;
+  moment = s.moment;
   is_full = s.is_full;
 }

@@ -1,6 +1,6 @@
 -- The places of those who get events, and what becomes of them where one is heard (profile).
 use Rattle.std.specs.Prelude.{◌≡◌, ◌⊎◌, ◌≤◌, ◌<◌, ◌+◌, ℕ, Bool, true, false, List, ◌∷◌, ◌++◌, length, take, drop, map}
-use Rattle.std.specs.Prelude.{Option, nat_lt, slice_index_or, if◌then◌else◌}
+use Rattle.std.specs.Prelude.{nat_lt, slice_index_or, if◌then◌else◌}
 use Rattle.std.specs.List.{AllByRecursion}
 use Rattle.seats.specs.declared.seat.Seat.{Seat}
 use Rattle.seats.specs.Seats.{IsSeatGiven, NoSeatGiven}
@@ -10,6 +10,7 @@ use Rattle.page.specs.declared.guests.room.Kind.{Kind}
 use Rattle.page.specs.declared.guests.room.Kind.TheVariants.{Events, Connections}
 use Rattle.page.specs.declared.guests.room.Room.{Room}
 use Rattle.page.specs.declared.guests.room.Room.TheVariants.{Free, Given, Full}
+use Rattle.page.specs.declared.state.silence.Moment.{Moment}
 use Rattle.page.specs.Events.{Past}
 use Rattle.page.specs.State.{State}
 use Rattle.page.specs.Sending.{Standing}
@@ -71,12 +72,12 @@ module _ {C : Type 0} (talk : C → Talk) where
     pub few : length heard ≤ guests_most
     pub live_few : (live_in heard ≤ live_most) ⊎ IsOver room heard
 
-  -- Something came on the connection of this number: that one is heard, from what is shown and kept then, and whether
-  -- there is a place of events for one that comes from where it comes, which depends on all; and it is sent what waits,
-  -- and kept or let go. Where it gets events from then on, and all places of those were taken, the one that gives it
-  -- its place is let go. The others stand as they stood.
+  -- Something came on the connection of this number: that one is heard, at this moment, from what is shown and kept
+  -- then, and whether there is a place of events for one that comes from where it comes, which depends on all; and it
+  -- is sent what waits, and kept or let go. Where it gets events from then on, and all places of those were taken, the
+  -- one that gives it its place is let go. The others stand as they stood.
   pub record HearsOne (origin numbered : C → ℕ) (reads : C → List ℕ → Passed → C → Type 0) (number : ℕ) (shown : State)
-      (past : Past) (seconds : Option ℕ) (own_only : Bool) (guests guests' : List (Guest C)) : Type 0 where
+      (past : Past) (moment : Moment) (own_only : Bool) (guests guests' : List (Guest C)) : Type 0 where
     pub before : List (Guest C)
     pub one : Guest C
     pub behind : List (Guest C)
@@ -89,7 +90,7 @@ module _ {C : Type 0} (talk : C → Talk) where
     pub hears : HearsThen talk reads (record {
       shown = shown;
       past = past;
-      seconds = seconds;
+      moment = moment;
       is_full = is_full room;
     }) own_only one stays one'
     pub heard : List (Guest C)

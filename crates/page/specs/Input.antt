@@ -23,11 +23,12 @@ abbrev pub bytes_left : Option (List ℕ) → List ℕ
 bytes_left None = []
 bytes_left (Some line) = line
 
--- Lines that were handed out were taken, each once and in this order.
+-- Lines that were handed out were taken, each once and in this order, each as one that came at some time.
 abbrev pub TakesAll : (out : List (Option (List ℕ))) → (before behind : Board) → Type 0
 TakesAll [] before behind = behind ≡ before
 TakesAll (told ∷ out) before behind =
-    (next : Board) × (taken : Taken) × TakesIn (bytes_left told) before next taken × TakesAll out next behind
+    (came : ℕ) × (next : Board) × (taken : Taken) × TakesIn (bytes_left told) came before next taken
+    × TakesAll out next behind
 
 -- These bytes were read of an input, and this came of them: of their lines those that have ended were taken, each once
 -- and in order; and what stands behind them waits.
@@ -47,22 +48,23 @@ abbrev pub Brings : (bytes : List ℕ) → (before behind : Intake) → Type 0
 Brings bytes before behind =
     (cutting_of behind ≡ record (cutting_of before) { ahead = bytes }) × (board_of behind ≡ board_of before)
 
--- The next line of what was read was cut and taken, once, and this is what it was; or none has ended, and none was
--- taken.
-abbrev pub TakesNext : (before behind : Intake) → Option Taken → Type 0
-TakesNext before behind None =
+-- The next line of what was read was cut and taken, once, as one that came then, and this is what it was; or none has
+-- ended, and none was taken.
+abbrev pub TakesNext : (came : ℕ) → (before behind : Intake) → Option Taken → Type 0
+TakesNext came before behind None =
     Cuts (cutting_of before) (cutting_of behind) Nothing × (board_of behind ≡ board_of before)
-TakesNext before behind (Some taken) =
+TakesNext came before behind (Some taken) =
     (cut : Cut) × (cut ≢ Nothing) × Cuts (cutting_of before) (cutting_of behind) cut
-    × TakesIn (cutting_of behind).held.line (board_of before) (board_of behind) taken
+    × TakesIn (cutting_of behind).held.line came (board_of before) (board_of behind) taken
 
--- At the end of the input the line that no line feed ends was taken, once, and this is what it was; or there is none.
-abbrev pub TakesLast : (before behind : Intake) → Option Taken → Type 0
-TakesLast before behind None =
+-- At the end of the input the line that no line feed ends was taken, once, as one that came then, and this is what it
+-- was; or there is none.
+abbrev pub TakesLast : (came : ℕ) → (before behind : Intake) → Option Taken → Type 0
+TakesLast came before behind None =
     IsLast (cutting_of before).held (cutting_of behind).held Nothing × (board_of behind ≡ board_of before)
-TakesLast before behind (Some taken) =
+TakesLast came before behind (Some taken) =
     (cut : Cut) × (cut ≢ Nothing) × IsLast (cutting_of before).held (cutting_of behind).held cut
-    × TakesIn (cutting_of behind).held.line (board_of before) (board_of behind) taken
+    × TakesIn (cutting_of behind).held.line came (board_of before) (board_of behind) taken
 
 -- Whatever was read before, these bytes were read behind it, and what came of all is this.
 abbrev pub GoesOn : (more : List ℕ) → (before behind : Intake) → Type 0

@@ -41,10 +41,10 @@ Comes (Ours text) before behind taken =
 Comes OtherLine before behind taken =
     (taken ≡ Other (one_more true before.count)) × (behind.past ≡ before.past) × (behind.refused ≡ true)
 
--- A line was taken, once.
-abbrev pub TakesIn : (line : List ℕ) → (before behind : Board) → Taken → Type 0
-TakesIn line before behind taken =
-    (took : Took) × Takes line before.shown behind.shown took × Comes took before behind taken
+-- A line that came then was taken, once.
+abbrev pub TakesIn : (line : List ℕ) → (came : ℕ) → (before behind : Board) → Taken → Type 0
+TakesIn line came before behind taken =
+    (took : Took) × Takes line came before.shown behind.shown took × Comes took before behind taken
     × (behind.count ≡ one_more true before.count)
 
 -- The exit status at the end of the input: 1 where a line was no object of ours, else 0.

@@ -9,6 +9,7 @@ pub mod State
 pub mod CardLaws
 pub mod Taking
 pub mod StateView
+pub mod Silence
 pub mod Texts
 pub use Rattle.serde_json.specs.Data
 pub use Rattle.serde_json.specs.Find
@@ -22,6 +23,7 @@ pub mod Fresh
 pub mod Streaming
 pub mod Sending
 pub mod Answers
+pub mod StaleLaws
 pub mod ClientView
 pub mod Hearing
 pub mod Life

@@ -65,6 +65,7 @@ line_of l = record {
   refused = option_map refusal_of l.refused;
   failed = l.failed;
   heard = option_map string_bytes l.heard;
+  told_at = l.told_at;
 }
 
 abbrev pub state_of : Page → State

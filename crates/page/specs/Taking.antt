@@ -13,10 +13,11 @@ use Rattle.page.specs.State.{State, after, after_other}
 abbrev pub IsOurs : (line : List ℕ) → Data → Type 0
 IsOurs line d = IsUtf8 line × (read line ≡ Some d) × (is_ours d ≡ true)
 
--- A line was taken: as an object of ours, and its text written anew says the same, with no space where it has no
--- number with a fraction; or as another line, which is only counted.
-abbrev pub Takes : (line : List ℕ) → (before behind : State) → Took → Type 0
-Takes line before behind (Ours text) =
-    (d : Data) × IsOurs line d × (behind ≡ after d before) × (has_float d ≡ false → string_bytes text ≡ compact_text d)
+-- A line was taken that came then: as an object of ours, and its text written anew says the same, with no space where
+-- it has no number with a fraction; or as another line, which is only counted.
+abbrev pub Takes : (line : List ℕ) → (came : ℕ) → (before behind : State) → Took → Type 0
+Takes line came before behind (Ours text) =
+    (d : Data) × IsOurs line d × (behind ≡ after (record { object = d; came = came }) before)
+    × (has_float d ≡ false → string_bytes text ≡ compact_text d)
     × (depth d ≤ max_depth → read (string_bytes text) ≡ Some d)
-Takes line before behind Other = (behind ≡ after_other before) × ((d : Data) → IsOurs line d → ⊥)
+Takes line came before behind Other = (behind ≡ after_other before) × ((d : Data) → IsOurs line d → ⊥)

@@ -1,5 +1,5 @@
 -- What is told of the state: as JSON, and as metrics (profile; the text form of Prometheus, version 0.0.4).
-use Rattle.std.specs.Prelude.{ℕ, ◌==◌, Bool, List, [], ◌∷◌, ◌++◌, codes, decimal, Option, Some, None}
+use Rattle.std.specs.Prelude.{ℕ, ◌==◌, Bool, List, [], ◌∷◌, ◌++◌, length, codes, decimal, Option, Some, None}
 use Rattle.std.specs.Prelude.{option_map, flat_map, if◌then◌else◌}
 use Rattle.serde_json.specs.Data.{Data, null, boolean, number, unsigned, string, array, object, Items, no_items, item}
 use Rattle.serde_json.specs.Data.{no_members, member}
@@ -8,9 +8,11 @@ use Rattle.page.specs.Counts.{Counts}
 use Rattle.page.specs.declared.state.metrics.Metric.{Metric}
 use Rattle.page.specs.declared.state.metrics.Metric.TheVariants.{Lines, Sent, SentRefusals, Messages, Repeats}
 use Rattle.page.specs.declared.state.metrics.Metric.TheVariants.{Refusals, Dropped, Connections, NotTold, Connected}
-use Rattle.page.specs.declared.state.metrics.Metric.TheVariants.{Refused}
+use Rattle.page.specs.declared.state.metrics.Metric.TheVariants.{Refused, Silent}
+use Rattle.page.specs.declared.state.silence.Moment.{Moment}
 use Rattle.page.specs.Link.{Linked, Refusal, link_kind, is_bad}
 use Rattle.page.specs.ControlLine.{Line}
+use Rattle.page.specs.Silence.{silent, is_stale}
 use Rattle.page.specs.State.{State}
 
 abbrev pub text_data : Option (List ℕ) → Data
@@ -60,25 +62,27 @@ refused_data None = null
 refused_data (Some r) =
     object (member (codes "meaning") (text_data r.meaning) (member (codes "time") (text_data r.time) no_members))
 
--- A control line as an object.
-abbrev pub line_data : Line → Data
-line_data l = object (member (codes "counts") (counts_data l.counts)
+-- A control line as an object, where the page's clock says now.
+abbrev pub line_data : (now : ℕ) → Line → Data
+line_data now l = object (member (codes "counts") (counts_data l.counts)
     (member (codes "current") (number (unsigned l.air.current)) (member (codes "failed") (boolean l.failed)
     (member (codes "heard") (text_data l.heard) (member (codes "line") (string l.name)
     (member (codes "link") (link_data l.linked) (member (codes "refused") (refused_data l.refused)
     (member (codes "services") (array (services_data l.air.services))
-    (member (codes "since") (since_data l.linked) no_members)))))))))
+    (member (codes "silent") (number (unsigned (silent now l)))
+    (member (codes "since") (since_data l.linked) no_members))))))))))
 
-abbrev pub lines_data : List Line → Items
-lines_data [] = no_items
-lines_data (l ∷ ls) = item (line_data l) (lines_data ls)
+abbrev pub lines_data : (now : ℕ) → List Line → Items
+lines_data now [] = no_items
+lines_data now (l ∷ ls) = item (line_data now l) (lines_data now ls)
 
 -- The state as an object of the kind `state`.
-abbrev pub state_data : State → Data
-state_data s = object (member (codes "format") (number (unsigned 1))
+abbrev pub state_data : Moment → State → Data
+state_data moment s = object (member (codes "format") (number (unsigned 1))
     (member (codes "further") (number (unsigned s.further)) (member (codes "kind") (string (codes "state"))
-    (member (codes "lines") (array (lines_data s.lines)) (member (codes "others") (number (unsigned s.others))
-    no_members)))))
+    (member (codes "lines") (array (lines_data moment.now s.lines))
+    (member (codes "others") (number (unsigned s.others))
+    (member (codes "stale") (number_data moment.stale) no_members))))))
 
 -- Two lines that say what the metric of this name is, and of which kind.
 unfoldable pub headed : (name help which : List ℕ) → List ℕ
@@ -124,6 +128,7 @@ value_of Connections l = Some l.counts.connections
 value_of NotTold l = Some l.counts.not_told
 value_of Connected l = option_map is_connected l.linked
 value_of Refused l = Some (is_refused l.refused)
+value_of (Silent now) l = Some (silent now l)
 
 abbrev pub sample_of : (name more line : List ℕ) → Option ℕ → List ℕ
 sample_of name more line None = []
@@ -174,18 +179,36 @@ counted_texts ls =
     NotTold ls)))))
 
 -- How each stands now.
-abbrev pub standing_texts : List Line → List ℕ
-standing_texts ls =
+abbrev pub standing_texts : (now : ℕ) → List Line → List ℕ
+standing_texts now ls =
     gauge_of (codes "uecp_connected") (codes "1 where the studio's end is connected, else 0.") Connected ls
-    ++ gauge_of (codes "uecp_refused") (codes "1 where the last message was refused, else 0.") Refused ls
+    ++ (gauge_of (codes "uecp_refused") (codes "1 where the last message was refused, else 0.") Refused ls
+    ++ gauge_of (codes "uecp_line_silent_seconds") (codes "Seconds since something was told of the line.") (Silent now)
+    ls)
 
 -- The metrics: of each control line, of the lines of input that are of none, and how many seconds ago the last message
 -- came, where one did.
-abbrev pub metrics : State → (seconds : Option ℕ) → List ℕ
-metrics s seconds =
-    counted_texts s.lines ++ (standing_texts s.lines
+abbrev pub metrics : State → Moment → List ℕ
+metrics s moment =
+    counted_texts s.lines ++ (standing_texts moment.now s.lines
     ++ (valued (codes "uecp_other_lines_total") (codes "Lines that are no object of ours.") (codes " counter\n")
     s.others
     ++ (valued (codes "uecp_further_total") (codes "Objects of control lines that are shown nowhere.")
     (codes " counter\n") s.further
-    ++ since seconds)))
+    ++ since moment.seconds)))
+
+-- The name of a control line in a line of plain text: escaped as in a label, so that it ends no line, and `-` where it
+-- has none.
+abbrev pub name_text : (name : List ℕ) → List ℕ
+name_text name = if length name == 0 then codes "-" else escaped name
+
+-- For how many seconds nothing was told of it, as a line of text.
+unfoldable pub silence_text : (now : ℕ) → Line → List ℕ
+silence_text now l = name_text l.name ++ (codes ": " ++ (decimal (silent now l) ++ codes " s\n"))
+
+abbrev pub stale_text : Moment → Line → List ℕ
+stale_text moment l = if is_stale moment l then silence_text moment.now l else []
+
+-- A line for each that is stale.
+abbrev pub stale_texts : Moment → List Line → List ℕ
+stale_texts moment ls = flat_map (stale_text moment) ls

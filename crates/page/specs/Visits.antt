@@ -13,7 +13,7 @@ use Rattle.page.specs.declared.guests.all.Guests.{Guests}
 use Rattle.page.specs.declared.guests.guest.Deed.{Deed}
 use Rattle.page.specs.declared.guests.guest.Deed.TheVariants.{CatchUp, Deliver, Tick, End}
 use Rattle.page.specs.Events.{Event, Past}
-use Rattle.page.specs.Sending.{Standing, IsLive, SaysAlive, Ends, owed}
+use Rattle.page.specs.Sending.{Standing, SaysAlive, Ends}
 use Rattle.page.specs.Answers.{Source}
 use Rattle.page.specs.Hearing.{Hears}
 use Rattle.page.specs.ClientView.{standing_of, came_of}

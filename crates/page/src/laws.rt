@@ -4,6 +4,7 @@ ghost use Rattle.page.specs.Stream.{part_text, gap, alive};
 ghost use Rattle.page.specs.Laws.{TakenAsSent, EachOnce, BeginningOnce, OwedNewer};
 ghost use Rattle.page.specs.CardLaws.{LineAlone, LineOnce, StoreClears, MainOnce, CountedOnce};
 ghost use Rattle.page.specs.Life.{WholeLife};
+ghost use Rattle.page.specs.StaleLaws.{StaleExactly, HealthExactly};
 ghost use Rattle.page.specs.Lines.{EachLineOnce, AllLinesAtEnd};
 ghost use Rattle.page.specs.Input.{RefusedExactly};
 
@@ -34,6 +35,18 @@ pub fn main_once()
 /// No object counts as a message under both ends, and what was sent rises by nothing but an answer.
 pub fn counted_once()
     ensures { CountedOnce }
+{}
+
+/// A control line is stale exactly where as many seconds as the limit says have gone by, by the page's clock, since the
+/// last object that names it came.
+pub fn stale_exactly()
+    ensures { StaleExactly }
+{}
+
+/// That something is wrong is told exactly where a control line that is shown is stale, and that all is well exactly
+/// where none is; that always, where there is no limit.
+pub fn health_exactly()
+    ensures { HealthExactly }
 {}
 
 /// A browser takes each line from a stream, under its number, once and in order, and nothing else.

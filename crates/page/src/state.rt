@@ -1,9 +1,11 @@
 //! What a live page shows, a card for each control line: a fold of the lines of JSON that `encoder`, `watch`,
-//! `receive`, `answer` and `send` write. No IO and no clock.
+//! `receive`, `answer` and `send` write. No IO, and no clock but the times that the caller gives.
 //!
 //! - [`Page`]: what is shown, and what was counted; takes a line at a time.
 //! - [`Took`]: what a line was.
-//! - [`state_text`], [`metrics_text`]: what is shown as JSON, and the counts as monitoring systems read them.
+//! - [`state_text`], [`metrics_text`]: what is shown as JSON, and the counts as monitoring systems read them, at a
+//!   [`Moment`].
+//! - [`has_stale`], [`stale_text`]: whether nothing was told of a control line for too long, and of which.
 
 mod air;
 mod counts;
@@ -14,8 +16,10 @@ mod metrics;
 mod page;
 mod row;
 mod services;
+mod silence;
 mod texts;
 
 pub use metrics::metrics_text;
 pub use page::{LINES_MAX, Page, SERVICES_MAX, Took};
+pub use silence::{Moment, has_stale, stale_text};
 pub use texts::state_text;

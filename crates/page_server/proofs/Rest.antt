@@ -1,5 +1,5 @@
 -- What waits for those who ask is no less where a line became no event.
-use Rattle.std.proofs.Common.{◌≡◌, List, Option, Some, sym, subst}
+use Rattle.std.proofs.Common.{◌≡◌, ℕ, List, Option, Some, sym, subst}
 use Rattle.page.specs.declared.guests.guest.Guest.{Guest}
 use Rattle.page.specs.declared.intake.taking.Intake.{Intake}
 use Rattle.page.specs.declared.intake.taking.Taken.{Taken}
@@ -15,14 +15,16 @@ module _ {C : Type 0} (guests : List (Guest C)) (before behind : Intake) (told :
       → AreCaughtUp (board_of behind).past guests
   as_before is caught = subst (λ (p : Past). AreCaughtUp p guests) (sym is) caught
 
-  pub caught_next : told ≡ Some taken → TakesNext before behind told → AreCaughtUp (board_of before).past guests
+  pub caught_next : (came : ℕ) → told ≡ Some taken → TakesNext came before behind told
+      → AreCaughtUp (board_of before).past guests
       → (taken ≡ Event → ⊥) → AreCaughtUp (board_of behind).past guests
-  caught_next is takes caught none =
-      let (cut, some, cuts, takes_in) = subst (λ (t : Option Taken). TakesNext before behind t) is takes in
-      as_before (kept_in _ (board_of before) (board_of behind) taken takes_in none) caught
+  caught_next came is takes caught none =
+      let (cut, some, cuts, takes_in) = subst (λ (t : Option Taken). TakesNext came before behind t) is takes in
+      as_before (kept_in _ came (board_of before) (board_of behind) taken takes_in none) caught
 
-  pub caught_last : told ≡ Some taken → TakesLast before behind told → AreCaughtUp (board_of before).past guests
+  pub caught_last : (came : ℕ) → told ≡ Some taken → TakesLast came before behind told
+      → AreCaughtUp (board_of before).past guests
       → (taken ≡ Event → ⊥) → AreCaughtUp (board_of behind).past guests
-  caught_last is takes caught none =
-      let (cut, some, cuts, takes_in) = subst (λ (t : Option Taken). TakesLast before behind t) is takes in
-      as_before (kept_in _ (board_of before) (board_of behind) taken takes_in none) caught
+  caught_last came is takes caught none =
+      let (cut, some, cuts, takes_in) = subst (λ (t : Option Taken). TakesLast came before behind t) is takes in
+      as_before (kept_in _ came (board_of before) (board_of behind) taken takes_in none) caught

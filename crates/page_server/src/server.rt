@@ -4,10 +4,11 @@
 ghost use Rattle.std.specs.Prelude.{◌≡◌, ◌⊎◌, false, [], IfOk, IsTrue, ◌↔◌, option_map};
 ghost use Rattle.std.specs.Duration.{as_nanos};
 ghost use Rattle.page.specs.Intake.{board_of, IsLoopback, first_number};
-ghost use Rattle.page.specs.Input.{cutting_of, IntakeOf, GoesOn, Ends};
+ghost use Rattle.page.specs.Input.{cutting_of, IntakeOf, TakesNext, TakesLast, GoesOn, Ends};
 ghost use Rattle.page_server.specs.Serving.{ReadsAll, Moves, other_line};
 ghost use Rattle.notices.specs.Told.{Says};
-ghost use Rattle.page_server.specs.Guesting.{AllCaughtUp, IsServing, IsHeard, Welcomes, Settles};
+ghost use Rattle.page_server.specs.Guesting.{AllCaughtUp, seconds_since, moment_of, TakesNow, IsServing, IsHeard};
+ghost use Rattle.page_server.specs.Guesting.{Welcomes, Settles};
 ghost use Rattle.page.specs.Talk.{IsUnsaid};
 ghost use Rattle.page.specs.Visits.{guests_of, AllDo};
 
@@ -15,7 +16,9 @@ use crate::start::Start;
 use crate::stop::Stop;
 use itoa::Buffer;
 use notices::{Notices, NoticesTo};
-use page::{Accepted, Connection, Deed, Guests, Intake, Sockets, Taken, first_number, own_only};
+use page::{
+    Accepted, Connection, Deed, Guests, Intake, Moment, Sockets, Taken, first_number, own_only,
+};
 use std::alloc::Global;
 use std::io::{Read, Write};
 
@@ -54,6 +57,7 @@ pub(crate) struct Serving<C> {
     guests: Guests<C>,
     intake: Intake,
     heard: Option<u64>,
+    stale: Option<u32>,
     ticked: u64,
     is_out: bool,
 }
@@ -65,6 +69,7 @@ impl<C: Connection> Serving<C> {
         ensures first { IfOk result (λ serving. (board_of serving.intake).past.first
             ≡ first_number (option_map as_nanos start.now.since)) }
         ensures refused { IfOk result (λ serving. (board_of serving.intake).refused ≡ false) }
+        ensures stale { IfOk result (λ serving. serving.stale ≡ start.now.stale) }
         ensures begins { IfOk result (λ serving. IntakeOf (first_number (option_map as_nanos start.now.since)) []
             serving.intake) }
         ensures serving { IfOk result (IsServing C.talk) }
@@ -78,6 +83,7 @@ impl<C: Connection> Serving<C> {
             guests: Guests::new(alloc, own_only(&start.place())),
             intake,
             heard: None,
+            stale: start.stale(),
             ticked: 0,
             is_out: false,
         })
@@ -95,6 +101,7 @@ impl<C: Connection> Serving<C> {
         ensures all { IfOk result (λ _. ReadsAll (R.remaining reader.old) (R.remaining reader.new) self.old.intake
             self.new.intake) }
         ensures refused { IfOk result (λ refused. refused ≡ (board_of self.new.intake).refused) }
+        ensures limit { self.new.stale ≡ self.old.stale }
         ensures serving { IsServing C.talk self.new }
         ensures caught_up { AllCaughtUp self.new }
     {
@@ -114,6 +121,7 @@ impl<C: Connection> Serving<C> {
         requires caught_up { AllCaughtUp self.old }
         ensures reads { IfOk result (λ _. ReadsAll (R.remaining reader.old) (R.remaining reader.new) self.old.intake
             self.new.intake) }
+        ensures limit { self.new.stale ≡ self.old.stale }
         ensures serving { IsServing C.talk self.new }
         ensures caught_up { AllCaughtUp self.new }
     {
@@ -143,6 +151,7 @@ impl<C: Connection> Serving<C> {
         requires serving { IsServing C.talk self.old }
         requires caught_up { AllCaughtUp self.old }
         ensures same { self.new.intake ≡ self.old.intake }
+        ensures limit { self.new.stale ≡ self.old.stale }
         ensures serving { IsServing C.talk self.new }
         ensures caught_up { AllCaughtUp self.new }
     {
@@ -162,17 +171,26 @@ impl<C: Connection> Serving<C> {
     fn hear<S: Sockets<Connection = C>>(&mut self, number: usize, sockets: &mut S)
         requires serving { IsServing C.talk self.old }
         requires caught_up { AllCaughtUp self.old }
-        ensures hears { IsHeard C.talk C.origin C.numbered C.reads number self.old self.new }
+        ensures hears { IsHeard C.talk C.origin C.numbered C.reads S.reads sockets.old number self.old self.new }
         ensures same { self.new.intake ≡ self.old.intake }
+        ensures limit { self.new.stale ≡ self.old.stale }
         ensures serving { IsServing C.talk self.new }
         ensures caught_up { AllCaughtUp self.new }
     {
-        let seconds = match self.heard {
-            Some(heard) => Some(sockets.now().saturating_sub(heard) / 1000),
-            None => None,
-        };
+        let moment = self.moment(sockets.now());
         self.guests
-            .hear(self.alloc, number, &self.intake, seconds, sockets);
+            .hear(self.alloc, number, &self.intake, moment, sockets);
+    }
+
+    /// The moment at which the clock says now.
+    fn moment(&self, now: u64) -> Moment
+        ensures { result ≡ moment_of self.now now }
+    {
+        Moment {
+            now,
+            seconds: seconds_since(self.heard, now),
+            stale: self.stale,
+        }
     }
 
     /// Accepts those who ask. Where there is no descriptor or no memory for one more, that is said once until all who
@@ -185,6 +203,7 @@ impl<C: Connection> Serving<C> {
         requires serving { IsServing C.talk self.old }
         requires caught_up { AllCaughtUp self.old }
         ensures same { self.new.intake ≡ self.old.intake }
+        ensures limit { self.new.stale ≡ self.old.stale }
         ensures serving { IsServing C.talk self.new }
         ensures caught_up { AllCaughtUp self.new }
     {
@@ -212,8 +231,9 @@ impl<C: Connection> Serving<C> {
         requires serving { IsServing C.talk self.old }
         requires caught_up { AllCaughtUp self.old }
         requires unsaid { IsUnsaid (C.talk connection) }
-        ensures welcomes { Welcomes C.talk C.origin C.numbered C.reads connection self.old self.new }
+        ensures welcomes { Welcomes C.talk C.origin C.numbered C.reads S.reads connection self.old self.new }
         ensures same { self.new.intake ≡ self.old.intake }
+        ensures limit { self.new.stale ≡ self.old.stale }
         ensures serving { IsServing C.talk self.new }
         ensures caught_up { AllCaughtUp self.new }
     {
@@ -242,6 +262,7 @@ impl<C: Connection> Serving<C> {
         requires caught_up { AllCaughtUp self.old }
         ensures same { self.new.intake ≡ self.old.intake }
         ensures settles { Settles C.talk S.reads sockets.old self.old self.new }
+        ensures limit { self.new.stale ≡ self.old.stale }
         ensures serving { IsServing C.talk self.new }
         ensures caught_up { AllCaughtUp self.new }
     {
@@ -263,6 +284,7 @@ impl<C: Connection> Serving<C> {
         requires serving { IsServing C.talk self.old }
         requires caught_up { AllCaughtUp self.old }
         ensures same { self.new.intake ≡ self.old.intake }
+        ensures limit { self.new.stale ≡ self.old.stale }
         ensures serving { IsServing C.talk self.new }
         ensures caught_up { AllCaughtUp self.new }
     {
@@ -288,6 +310,7 @@ impl<C: Connection> Serving<C> {
             guests,
             intake,
             heard: _,
+            stale: _,
             ticked: _,
             is_out: _,
         } = self;
@@ -305,6 +328,7 @@ impl<C: Connection> Serving<C> {
         requires caught_up { AllCaughtUp self.old }
         ensures moves { IfOk result (Moves (R.remaining reader.old) (R.remaining reader.new) self.old.intake
             self.new.intake) }
+        ensures limit { self.new.stale ≡ self.old.stale }
         ensures serving { IsServing C.talk self.new }
         ensures caught_up { AllCaughtUp self.new }
     {
@@ -331,6 +355,7 @@ impl<C: Connection> Serving<C> {
         requires caught_up { AllCaughtUp self.old }
         ensures more { IfOk result (λ progress. progress ≡ Progress.More) }
         ensures goes_on { IfOk result (λ _. GoesOn [] self.old.intake self.new.intake) }
+        ensures limit { self.new.stale ≡ self.old.stale }
         ensures serving { IsServing C.talk self.new }
         ensures caught_up { AllCaughtUp self.new }
     {
@@ -342,8 +367,8 @@ impl<C: Connection> Serving<C> {
         Ok(Progress::More)
     }
 
-    /// Takes the next line of what was read, once. Whether there was one. That a message was heard is told by the time
-    /// only where one was counted.
+    /// Takes the next line of what was read, once, as one that comes now. Whether there was one. That a message was
+    /// heard is told by the time only where one was counted.
     fn take_next<E: Write, S: Sockets<Connection = C>>(
         &mut self,
         errors: &mut NoticesTo<E>,
@@ -352,23 +377,26 @@ impl<C: Connection> Serving<C> {
         requires serving { IsServing C.talk self.old }
         requires caught_up { AllCaughtUp self.old }
         ensures goes_on { IfOk result (λ _. GoesOn [] self.old.intake self.new.intake) }
+        ensures taken { IfOk result (λ _. TakesNow TakesNext S.reads sockets.old self.old.intake self.new.intake) }
         ensures heard { IfOk result (λ _. (board_of self.new.intake).shown.messages
             ≡ (board_of self.old.intake).shown.messages → self.new.heard ≡ self.old.heard) }
+        ensures limit { self.new.stale ≡ self.old.stale }
         ensures serving { IsServing C.talk self.new }
         ensures caught_up { AllCaughtUp self.new }
     {
         let before = self.intake.page().messages();
-        match self.intake.take_next(self.alloc) {
+        let came = sockets.now();
+        match self.intake.take_next(self.alloc, came) {
             Err(_) => Err(Stop::OutOfMemory),
             Ok(None) => Ok(false),
             Ok(Some(taken)) => {
-                self.tell(before, taken, errors, sockets);
+                self.tell(before, came, taken, errors, sockets);
                 Ok(true)
             }
         }
     }
 
-    /// The input has ended: a line that no line feed ends is taken.
+    /// The input has ended: a line that no line feed ends is taken, as one that comes now.
     fn take_last<E: Write, S: Sockets<Connection = C>>(
         &mut self,
         errors: &mut NoticesTo<E>,
@@ -379,25 +407,29 @@ impl<C: Connection> Serving<C> {
         requires caught_up { AllCaughtUp self.old }
         ensures ended { IfOk result (λ progress. progress ≡ Progress.Ended) }
         ensures ends { IfOk result (λ _. Ends [] self.old.intake self.new.intake) }
+        ensures taken { IfOk result (λ _. TakesNow TakesLast S.reads sockets.old self.old.intake self.new.intake) }
         ensures heard { IfOk result (λ _. (board_of self.new.intake).shown.messages
             ≡ (board_of self.old.intake).shown.messages → self.new.heard ≡ self.old.heard) }
+        ensures limit { self.new.stale ≡ self.old.stale }
         ensures serving { IsServing C.talk self.new }
         ensures caught_up { AllCaughtUp self.new }
     {
         let before = self.intake.page().messages();
-        match self.intake.take_last(self.alloc) {
+        let came = sockets.now();
+        match self.intake.take_last(self.alloc, came) {
             Err(_) => return Err(Stop::OutOfMemory),
             Ok(None) => {}
-            Ok(Some(taken)) => self.tell(before, taken, errors, sockets),
+            Ok(Some(taken)) => self.tell(before, came, taken, errors, sockets),
         }
         Ok(Progress::Ended)
     }
 
-    /// Tells what a line came to: an event goes to those who get them, another line is told on `errors`. So many
-    /// messages were counted before it.
+    /// Tells what a line came to that came then: an event goes to those who get them, another line is told on `errors`.
+    /// So many messages were counted before it.
     fn tell<E: Write, S: Sockets<Connection = C>>(
         &mut self,
         before: u64,
+        came: u64,
         taken: Taken,
         errors: &mut NoticesTo<E>,
         sockets: &mut S,
@@ -408,6 +440,7 @@ impl<C: Connection> Serving<C> {
         ensures heard { (board_of self.old.intake).shown.messages ≡ before → self.new.heard ≡ self.old.heard }
         ensures event { taken ≡ Taken.Event → AllDo C.talk Deed.CatchUp (board_of self.old.intake).past
             (guests_of self.old.guests) (guests_of self.new.guests) }
+        ensures limit { self.new.stale ≡ self.old.stale }
         ensures serving { IsServing C.talk self.new }
         ensures caught_up { AllCaughtUp self.new }
     {
@@ -417,8 +450,18 @@ impl<C: Connection> Serving<C> {
             Taken::Unsent => {}
         }
         if self.intake.page().messages() != before {
-            self.heard = Some(sockets.now());
+            self.heard = Some(came);
         }
+    }
+}
+
+/// How many whole seconds have gone by since then, where it is told.
+fn seconds_since(then: Option<u64>, now: u64) -> Option<u64>
+    ensures { result ≡ seconds_since then now }
+{
+    match then {
+        Some(then) => Some(now.saturating_sub(then) / 1000),
+        None => None,
     }
 }
 

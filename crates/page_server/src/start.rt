@@ -1,4 +1,4 @@
-//! What a page begins with: where it is served, and the time (profile).
+//! What a page begins with: where it is served, the time, and which control lines are stale (profile).
 ghost use Rattle.std.specs.Prelude.{◌≡◌, IfOk};
 ghost use Rattle.page_server.specs.Starting.{IsPlaceOf};
 
@@ -15,19 +15,22 @@ const PORT: u16 = 8080;
 pub(crate) struct Start {
     place: SocketAddr,
     since: Option<Duration>,
+    stale: Option<u32>,
 }
 
 impl Start {
-    /// The place that the options ask for, and the time that a clock tells.
+    /// The place and the limit that the options ask for, and the time that a clock tells.
     ///
     /// Errors: as [`AddressFault`] has them.
     pub(crate) fn of<C: Clock>(options: &PageOptions, clock: &C) -> Result<Start, AddressFault>
-        ensures { IfOk result (λ start. IsPlaceOf options.now start.place) }
+        ensures place { IfOk result (λ start. IsPlaceOf options.now start.place) }
+        ensures stale { IfOk result (λ start. start.stale ≡ options.now.stale) }
     {
         let place = place_of(options)?;
         Ok(Start {
             place,
             since: since_1970(clock),
+            stale: options.stale,
         })
     }
 
@@ -36,6 +39,13 @@ impl Start {
         ensures { result ≡ self.now.place }
     {
         self.place
+    }
+
+    /// For how many seconds nothing was told of a control line that is stale; None where none ever is.
+    pub(crate) fn stale(&self) -> Option<u32>
+        ensures { result ≡ self.now.stale }
+    {
+        self.stale
     }
 
     /// How long ago 1970 began; None where the machine has no clock.

@@ -14,7 +14,7 @@ use crate::clients::client::{Client, Phase, Site};
 use crate::clients::html::{HTML, POLICY};
 use crate::clients::request::Route;
 use crate::events::GAP;
-use crate::state::{metrics_text, state_text};
+use crate::state::{has_stale, metrics_text, stale_text, state_text};
 use http1::{BodySize, Header, WriteError};
 use std::alloc::Global;
 
@@ -55,7 +55,7 @@ impl Client {
             Route::Events => self.open_events(asked.last, site),
             Route::State => self.tell_state(alloc, site),
             Route::Metrics => self.tell_metrics(alloc, site),
-            Route::Health => self.whole(200, b"OK", PLAIN, b"ok\n"),
+            Route::Health => self.tell_health(alloc, site),
             Route::NotFound => self.whole(404, b"Not Found", PLAIN, b"no such page\n"),
             Route::OtherMethod => {
                 self.whole(
@@ -103,7 +103,7 @@ impl Client {
         ensures closes { self.new.phase ≡ Phase.Closing }
         ensures came { self.new.input.items ≡ self.old.input.items }
     {
-        match state_text(alloc, site.page) {
+        match state_text(alloc, site.page, site.moment) {
             Ok(text) => self.whole(200, b"OK", b"application/json", text.as_bytes()),
             Err(_) => self.no_memory(),
         }
@@ -118,8 +118,26 @@ impl Client {
         ensures closes { self.new.phase ≡ Phase.Closing }
         ensures came { self.new.input.items ≡ self.old.input.items }
     {
-        match metrics_text(alloc, site.page, site.seconds) {
+        match metrics_text(alloc, site.page, site.moment) {
             Ok(text) => self.whole(200, b"OK", METRICS, text.as_slice()),
+            Err(_) => self.no_memory(),
+        }
+    }
+
+    /// That all is well, or which control lines are stale.
+    fn tell_health(&mut self, alloc: Global, site: &Site<'_>) -> Result<(), WriteError>
+        requires { self.old.phase ≡ Phase.Closing }
+        ensures told { Tells (answer_text self.old.server (answer_of (source_of site.now) Route.Health))
+            self.old.output.items self.new.output.items
+            ⊎ Tells (answer_text self.old.server no_memory) self.old.output.items self.new.output.items }
+        ensures closes { self.new.phase ≡ Phase.Closing }
+        ensures came { self.new.input.items ≡ self.old.input.items }
+    {
+        if !has_stale(site.page, site.moment) {
+            return self.whole(200, b"OK", PLAIN, b"ok\n");
+        }
+        match stale_text(alloc, site.page, site.moment) {
+            Ok(text) => self.whole(503, b"Service Unavailable", PLAIN, text.as_slice()),
             Err(_) => self.no_memory(),
         }
     }

@@ -6,7 +6,7 @@ ghost use Rattle.page.specs.Fresh.{fresh};
 ghost use Rattle.page.specs.Streaming.{IsStreaming};
 
 use crate::events::History;
-use crate::state::Page;
+use crate::state::{Moment, Page};
 use http1::Server;
 
 /// What a connection is for.
@@ -27,8 +27,8 @@ pub struct Site<'a> {
     pub page: &'a Page,
     /// The last events.
     pub history: &'a History,
-    /// How many seconds ago the last message came, where one did.
-    pub seconds: Option<u64>,
+    /// When it is heard.
+    pub moment: Moment,
     /// Whether only the machine's own names are served.
     pub own_only: bool,
     /// Whether no more connections may get events.

@@ -3,7 +3,7 @@
 
 /// What a browser may load for it, and from where (Content Security Policy Level 3).
 pub(crate) const POLICY: &[u8] = b"default-src 'none'; \
-    script-src 'sha256-jAxFoPl29uoI3CWSKVYeR28IB8oC5Es6sBqRHgSaydA='; \
+    script-src 'sha256-xzjEK5PIQ1fapCARNIev/HQalf2oh2sUk7U86DoH+M0='; \
     style-src 'sha256-Whk7X6C8pvGtaFWsNPpJ4w4zvmyQ5Ger3iUq5Pak9g8='; \
     connect-src 'self'; \
     img-src data:; \
@@ -109,6 +109,7 @@ const SHOWN_MAX = 100;
 const AFTER = 200;
 const REPLAY = 2000;
 const OPEN_MAX = 128;
+const ASK_EACH = 10000;
 const COUNTS = [["sent", "messages sent"], ["sent_refusals", "sent, and refused"],
   ["messages", "messages come"], ["refusals", "come, and refused"], ["repeats", "come again"],
   ["empty", "empty messages come"], ["dropped", "segments dropped"], ["connections", "connections"],
@@ -130,6 +131,7 @@ const hexadecimal = number => two(number.toString(16).toUpperCase());
 const clock_of = time => two(time.getHours()) + ":" + two(time.getMinutes()) + ":" + two(time.getSeconds());
 let held = false, waiting = [], asked = false, again = false, before = [], opened = 0, unheard = null;
 let lines = null, unknown = new Set(), on_since = new Map(), empties = new Map();
+let limit = null, answered = 0;
 
 function set_text(element, text) { if (element.textContent !== text) element.textContent = text; }
 function title_of(s) {
@@ -286,6 +288,20 @@ const LINKS = { connected: "connected", no_connection: "no connection", lost: "t
   answers_nothing: "answers nothing", line_given_up: "given up" };
 function is_bad_link(l) { return l.link !== null && l.link !== "connected"; }
 function link_words(l) { return l.link === null ? "" : joined_by(" ", LINKS[l.link] ?? l.link, since_of(l.since)); }
+// When a line was told of last, by this browser's clock: as the page says it now, in whole seconds; where nothing more
+// was told of it not later than the page said before.
+function keep_told(l) {
+  const was = (lines ?? []).find(other => other.line === l.line), told = answered - 1000 * l.silent;
+  l.told = was?.counts.lines === l.counts.lines ? Math.min(was.told, told) : told;
+}
+// For how many seconds nothing was told of a line, and whether that is too long: as far as the page is heard, which is
+// asked again and again.
+function silent_of(l) {
+  const until = Math.min(unheard === null ? Date.now() : Date.parse(unheard), answered + 2 * ASK_EACH);
+  return Math.floor((until - l.told) / 1000);
+}
+function is_stale(l) { return limit !== null && silent_of(l) >= limit; }
+function told_since(l) { return told_at("since ", new Date(l.told).toISOString(), clock_of); }
 // What is wrong with lines: of which, what, and since when.
 function alarms_of(lines) {
   const alarms = [];
@@ -295,6 +311,7 @@ function alarms_of(lines) {
       alarms.push([l.line, "a message was refused: " + (l.refused.meaning ?? "?"), since_of(l.refused.time)]);
     }
     if (l.failed) alarms.push([l.line, "the encoder could not save its state", ""]);
+    if (is_stale(l)) alarms.push([l.line, "nothing was told", told_since(l)]);
   }
   return alarms;
 }
@@ -364,9 +381,12 @@ function show_cards(l, box, gone, was_known) {
     box.lastElementChild.remove();
   }
 }
-// Of a line that is not connected, and of all where nothing is heard, it is not known what is on the air.
+// Of a line that is not connected, of one of which nothing was told for too long, and of all where nothing is heard, it
+// is not known what is on the air.
 function gone_of(l) {
-  if (is_bad_link(l)) return joined_by(" ", "not known", since_of(l.since));
+  const silence = is_stale(l) ? "nothing was told for " + whole(silent_of(l), "second", "seconds") : "";
+  if (is_bad_link(l)) return joined_by(": ", joined_by(" ", "not known", since_of(l.since)), silence);
+  if (silence) return "not known " + told_since(l) + ": " + silence;
   return unheard === null ? null : joined_by(" ", "not known", since_of(unheard));
 }
 function show_line(l, place, is_first) {
@@ -421,6 +441,9 @@ async function ask() {
   try {
     const answer = await fetch("/state", { cache: "no-store" });
     const state = await answer.json();
+    answered = Date.now();
+    limit = state.stale;
+    state.lines.forEach(keep_told);
     show_lines(state.lines);
     show_counts(counts_of(state));
   } catch (error) {
@@ -448,7 +471,13 @@ at("hold").addEventListener("click", event => {
   if (!held) show_events();
 });
 const source = new EventSource("/events");
-source.onopen = () => { opened = Date.now(); unheard = null; set_text(at("link"), "connected"); ask(); };
+source.onopen = () => {
+  opened = Date.now();
+  unheard = null;
+  for (const l of lines ?? []) l.told = Infinity;
+  set_text(at("link"), "connected");
+  ask();
+};
 source.onerror = () => {
   unheard ??= new Date().toISOString();
   set_text(at("link"), "no connection; it is tried again");
@@ -464,8 +493,8 @@ source.onmessage = event => {
 source.addEventListener("gap", () => {
   note({ line: "", about: "line", words: "events are gone", bad: true, text: "", time: clock_of(new Date()) });
 });
-setInterval(ask, 10000);
-setInterval(show_bands, 1000);
+setInterval(ask, ASK_EACH);
+setInterval(() => { if (lines?.some(is_stale)) show_lines(lines); else show_bands(); }, 1000);
 </script>
 </body>
 </html>

@@ -25,6 +25,7 @@ use crate::guests::guest::{Deed, Guest};
 use crate::guests::room::{Kind, Room};
 use crate::guests::sockets::Sockets;
 use crate::intake::Intake;
+use crate::state::Moment;
 use arrayvec::ArrayVec;
 use seats::{Seat, place_given};
 use std::alloc::Global;
@@ -170,15 +171,14 @@ impl<C: Connection> Guests<C> {
         None
     }
 
-    /// Something came on the connection of this number: it is heard, and answered from what came in; the last message
-    /// came so many seconds ago. Where it gets events from then on, and all places of those were taken, one of them
-    /// gives its own, and is let go.
+    /// Something came on the connection of this number: it is heard at this moment, and answered from what came in.
+    /// Where it gets events from then on, and all places of those were taken, one of them gives its own, and is let go.
     pub fn hear<S: Sockets<Connection = C>>(
         &mut self,
         alloc: Global,
         number: usize,
         intake: &Intake,
-        seconds: Option<u64>,
+        moment: Moment,
         sockets: &mut S,
     )
         requires { AllServed C.talk (board_of intake.now).past self.old }
@@ -188,13 +188,13 @@ impl<C: Connection> Guests<C> {
         ensures own_only { self.new.own_only ≡ self.old.own_only }
         ensures hears { (HasNone C.numbered number (guests_of self.old) × (self.new ≡ self.old))
             ⊎ HearsOne C.talk C.origin C.numbered C.reads number (board_of intake.now).shown
-            (board_of intake.now).past seconds self.old.own_only (guests_of self.old) (guests_of self.new) }
+            (board_of intake.now).past moment self.old.own_only (guests_of self.old) (guests_of self.new) }
     {
         let Some(place) = self.place_of(number) else {
             return;
         };
         let room = self.room_for(self.guests[place].connection.origin());
-        let site = intake.site(seconds, self.own_only, room.is_full());
+        let site = intake.site(moment, self.own_only, room.is_full());
         if hear(&mut self.guests[place], alloc, &site, sockets) {
             self.give_events(room, intake.history(), sockets);
         } else {

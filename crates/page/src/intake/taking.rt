@@ -12,7 +12,7 @@ use crate::clients::Site;
 use crate::events::{AddFault, History};
 use crate::intake::lines::Lines;
 use crate::intake::open_line::Cut;
-use crate::state::{Page, Took};
+use crate::state::{Moment, Page, Took};
 use std::alloc::{AllocError, Global};
 use std::io;
 use std::io::Read;
@@ -78,44 +78,46 @@ impl Intake {
         self.lines.read(reader)
     }
 
-    /// Takes the next line of what was read, once, and answers what it was; None where no line has ended. Nothing is
-    /// left of a line that is too long, which is no object of ours.
+    /// Takes the next line of what was read, once, as one that came then, by the page's clock, in milliseconds, and
+    /// answers what it was; None where no line has ended. Nothing is left of a line that is too long, which is no
+    /// object of ours.
     ///
     /// Errors: where memory is refused what is shown may have the line in part, and no event came of it.
-    pub fn take_next(&mut self, alloc: Global) -> Result<Option<Taken>, AllocError>
-        ensures takes { IfOk result (TakesNext self.old self.new) }
+    pub fn take_next(&mut self, alloc: Global, came: u64) -> Result<Option<Taken>, AllocError>
+        ensures takes { IfOk result (TakesNext came self.old self.new) }
         ensures goes_on { IfOk result (λ _. GoesOn [] self.old self.new) }
         ensures err { OnErr result (((board_of self.new).past ≡ (board_of self.old).past)
             × ((board_of self.new).refused ≡ (board_of self.old).refused)) }
     {
         match self.lines.cut()? {
             Cut::Nothing => Ok(None),
-            Cut::Line | Cut::TooLong => Ok(Some(self.take(alloc)?)),
+            Cut::Line | Cut::TooLong => Ok(Some(self.take(alloc, came)?)),
         }
     }
 
-    /// At the end of the input: takes the line that no line feed ends, once, and answers what it was; None where there
-    /// is none.
+    /// At the end of the input: takes the line that no line feed ends, once, as one that came then, and answers what it
+    /// was; None where there is none.
     ///
     /// Errors: as those of `take_next`.
-    pub fn take_last(&mut self, alloc: Global) -> Result<Option<Taken>, AllocError>
+    pub fn take_last(&mut self, alloc: Global, came: u64) -> Result<Option<Taken>, AllocError>
         requires { (cutting_of self.old).ahead ≡ [] }
-        ensures takes { IfOk result (TakesLast self.old self.new) }
+        ensures takes { IfOk result (TakesLast came self.old self.new) }
         ensures ends { IfOk result (λ _. Ends [] self.old self.new) }
         ensures err { OnErr result (((board_of self.new).past ≡ (board_of self.old).past)
             × ((board_of self.new).refused ≡ (board_of self.old).refused)) }
     {
         match self.lines.last() {
             Cut::Nothing => Ok(None),
-            Cut::Line | Cut::TooLong => Ok(Some(self.take(alloc)?)),
+            Cut::Line | Cut::TooLong => Ok(Some(self.take(alloc, came)?)),
         }
     }
 
-    /// Takes the line that was handed out last, once.
+    /// Takes the line that was handed out last, once, as one that came then.
     ///
     /// Errors: where memory is refused what is shown may have the line in part; it is counted, and no event came of it.
-    fn take(&mut self, alloc: Global) -> Result<Taken, AllocError>
-        ensures takes { IfOk result (TakesIn (cutting_of self.old).held.line (board_of self.old) (board_of self.new)) }
+    fn take(&mut self, alloc: Global, came: u64) -> Result<Taken, AllocError>
+        ensures takes { IfOk result (TakesIn (cutting_of self.old).held.line came (board_of self.old)
+            (board_of self.new)) }
         ensures lines { cutting_of self.new ≡ cutting_of self.old }
         ensures count { (board_of self.new).count ≡ one_more true (board_of self.old).count }
         ensures err { OnErr result (((board_of self.new).past ≡ (board_of self.old).past)
@@ -123,7 +125,7 @@ impl Intake {
     {
         self.count = self.count.saturating_add(1);
         let line = self.lines.line();
-        match self.page.take(alloc, line)? {
+        match self.page.take(alloc, line, came)? {
             Took::Ours(text) => add(text, &mut self.history),
             Took::Other => {
                 self.refused = true;
@@ -154,11 +156,11 @@ impl Intake {
     }
 
     /// What a connection is answered from.
-    pub fn site(&self, seconds: Option<u64>, own_only: bool, is_full: bool) -> Site<'_>
+    pub fn site(&self, moment: Moment, own_only: bool, is_full: bool) -> Site<'_>
         ensures source { source_of result ≡ record {
           shown = (board_of self.now).shown;
           past = (board_of self.now).past;
-          seconds = seconds;
+          moment = moment;
           is_full = is_full;
         } }
         ensures own_only { result.own_only ≡ own_only }
@@ -166,7 +168,7 @@ impl Intake {
         Site {
             page: &self.page,
             history: &self.history,
-            seconds,
+            moment,
             own_only,
             is_full,
         }

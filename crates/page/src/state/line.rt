@@ -27,6 +27,8 @@ pub(crate) struct Line {
     pub(crate) failed: bool,
     /// The time that was told last.
     pub(crate) heard: Option<String>,
+    /// When the last object that names it came, by the page's clock, in milliseconds.
+    pub(crate) told_at: u64,
 }
 
 impl Line {
@@ -42,6 +44,7 @@ impl Line {
             refused: None,
             failed: false,
             heard: None,
+            told_at: 0,
         }
     }
 
@@ -52,12 +55,16 @@ impl Line {
         self.name.as_str() == name
     }
 
-    /// Takes an object that names it.
+    /// Takes an object that names it, and that came then.
     ///
     /// Errors: where memory is refused it may have been taken in part.
-    pub(crate) fn take(&mut self, alloc: Global, value: Value) -> Result<(), AllocError>
-        ensures { OnOk result (line_of self.new ≡ line_after (view value) (line_of self.old)) }
+    pub(crate) fn take(&mut self, alloc: Global, value: Value, came: u64) -> Result<(), AllocError>
+        ensures { OnOk result (line_of self.new ≡ line_after (record {
+          object = view value;
+          came = came;
+        }) (line_of self.old)) }
     {
+        self.told_at = came;
         self.counts.count(&value);
         self.linked = linked_after(alloc, &value, self.linked.take())?;
         self.refused = refused_after(alloc, &value, self.refused.take())?;

@@ -8,6 +8,7 @@ ghost use Rattle.page.specs.StateView.{line_of, linked_of, refusal_of, state_of}
 use crate::state::line::Line;
 use crate::state::link::{Linked, Refusal};
 use crate::state::page::Page;
+use crate::state::silence::{Moment, silent};
 use itoa::Buffer;
 use std::alloc::{AllocError, Global};
 
@@ -36,15 +37,17 @@ pub(crate) enum Metric {
     Connected,
     /// Whether the last message was refused.
     Refused,
+    /// For how many seconds nothing was told of it, at this time by the page's clock, in milliseconds.
+    Silent(u64),
 }
 
-/// What is counted, and how many seconds ago the last message came, where one did.
-pub fn metrics_text(alloc: Global, page: &Page, seconds: Option<u64>) -> Result<Vec<u8>, AllocError>
-    ensures { IfOk result (λ text. text.items ≡ metrics (state_of page.now) seconds) }
+/// What is counted, and how the control lines stand at this moment.
+pub fn metrics_text(alloc: Global, page: &Page, moment: Moment) -> Result<Vec<u8>, AllocError>
+    ensures { IfOk result (λ text. text.items ≡ metrics (state_of page.now) moment) }
 {
     let mut text = Vec::new(alloc);
     put_counted(page.lines(), &mut text)?;
-    put_standing(page.lines(), &mut text)?;
+    put_standing(moment.now, page.lines(), &mut text)?;
     put_value(
         "uecp_other_lines_total",
         "Lines that are no object of ours.",
@@ -59,7 +62,7 @@ pub fn metrics_text(alloc: Global, page: &Page, seconds: Option<u64>) -> Result<
         page.further(),
         &mut text,
     )?;
-    put_since(seconds, &mut text)?;
+    put_since(moment.seconds, &mut text)?;
     Ok(text)
 }
 
@@ -121,8 +124,8 @@ fn put_counted(lines: &[Line], text: &mut Vec<u8>) -> Result<(), AllocError>
 }
 
 /// Adds how each control line stands now.
-fn put_standing(lines: &[Line], text: &mut Vec<u8>) -> Result<(), AllocError>
-    ensures { OnOk result (text.new.items ≡ text.old.items ++ standing_texts (map line_of lines.now)) }
+fn put_standing(now: u64, lines: &[Line], text: &mut Vec<u8>) -> Result<(), AllocError>
+    ensures { OnOk result (text.new.items ≡ text.old.items ++ standing_texts now (map line_of lines.now)) }
 {
     put_gauge(
         "uecp_connected",
@@ -135,6 +138,13 @@ fn put_standing(lines: &[Line], text: &mut Vec<u8>) -> Result<(), AllocError>
         "uecp_refused",
         "1 where the last message was refused, else 0.",
         Metric::Refused,
+        lines,
+        text,
+    )?;
+    put_gauge(
+        "uecp_line_silent_seconds",
+        "Seconds since something was told of the line.",
+        Metric::Silent(now),
         lines,
         text,
     )
@@ -255,6 +265,7 @@ fn value_of(metric: Metric, line: &Line) -> Option<u64>
         Metric::NotTold => Some(line.counts.not_told),
         Metric::Connected => connected(&line.linked),
         Metric::Refused => Some(refused(&line.refused)),
+        Metric::Silent(now) => Some(silent(now, line)),
     }
 }
 
@@ -349,7 +360,7 @@ fn put_end(value: u64, text: &mut Vec<u8>) -> Result<(), AllocError>
 }
 
 /// Adds a value of a label.
-fn put_escaped(label: &[u8], text: &mut Vec<u8>) -> Result<(), AllocError>
+pub(crate) fn put_escaped(label: &[u8], text: &mut Vec<u8>) -> Result<(), AllocError>
     ensures { OnOk result (text.new.items ≡ text.old.items ++ escaped label.now) }
 {
     for byte in label {

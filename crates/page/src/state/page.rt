@@ -51,12 +51,13 @@ impl Page {
         }
     }
 
-    /// Takes a line, with or without its line feed. A line that is an object of JSON with our `format` and a `kind` is
-    /// taken as that; another is counted, and changes nothing else.
+    /// Takes a line, with or without its line feed, that came then, by the page's clock, in milliseconds. A line that
+    /// is an object of JSON with our `format` and a `kind` is taken as that; another is counted, and changes nothing
+    /// else.
     ///
     /// Errors: where memory is refused the line may have been taken in part.
-    pub fn take(&mut self, alloc: Global, line: &[u8]) -> Result<Took, AllocError>
-        ensures { IfOk result (Takes line.now (state_of self.old) (state_of self.new)) }
+    pub fn take(&mut self, alloc: Global, line: &[u8], came: u64) -> Result<Took, AllocError>
+        ensures { IfOk result (Takes line.now came (state_of self.old) (state_of self.new)) }
     {
         let value = match Value::from_slice(alloc, line) {
             Ok(value) => value,
@@ -71,7 +72,7 @@ impl Page {
             return Ok(Took::Other);
         }
         let text = value.to_string(alloc)?;
-        self.take_object(alloc, value)?;
+        self.take_object(alloc, value, came)?;
         Ok(Took::Ours(text))
     }
 
@@ -82,30 +83,36 @@ impl Page {
         add(true, &mut self.others);
     }
 
-    /// Takes an object of ours: by the control line that it names. A new one comes last, where there is room; else the
-    /// object is counted, and changes nothing else.
+    /// Takes an object of ours that came then: by the control line that it names. A new one comes last, where there is
+    /// room; else the object is counted, and changes nothing else.
     ///
     /// Errors: where memory is refused it may have been taken in part.
-    pub fn take_object(&mut self, alloc: Global, value: Value) -> Result<(), AllocError>
-        ensures { OnOk result (state_of self.new ≡ after (view value) (state_of self.old)) }
+    pub fn take_object(&mut self, alloc: Global, value: Value, came: u64) -> Result<(), AllocError>
+        ensures { OnOk result (state_of self.new ≡ after (record {
+          object = view value;
+          came = came;
+        }) (state_of self.old)) }
     {
         add(is_told(&value), &mut self.messages);
-        self.tell(alloc, value)
+        self.tell(alloc, value, came)
     }
 
     /// An object is told of the control line that it names; or it is of a further one.
     ///
     /// Errors: where memory is refused it may have been told in part.
-    fn tell(&mut self, alloc: Global, value: Value) -> Result<(), AllocError>
-        ensures { OnOk result (state_of self.new ≡ told_in (view value) (state_of self.old)) }
+    fn tell(&mut self, alloc: Global, value: Value, came: u64) -> Result<(), AllocError>
+        ensures { OnOk result (state_of self.new ≡ told_in (record {
+          object = view value;
+          came = came;
+        }) (state_of self.old)) }
     {
         for place in 0..self.lines.len() {
             if self.lines[place].is_named(name_of(&value)) {
-                return self.lines[place].take(alloc, value);
+                return self.lines[place].take(alloc, value, came);
             }
         }
         if self.lines.len() < LINES_MAX {
-            return self.begin(alloc, value);
+            return self.begin(alloc, value, came);
         }
         add(true, &mut self.further);
         Ok(())
@@ -114,15 +121,15 @@ impl Page {
     /// Takes an object of a control line that is new.
     ///
     /// Errors: where memory is refused it may have been taken in part.
-    fn begin(&mut self, alloc: Global, value: Value) -> Result<(), AllocError>
+    fn begin(&mut self, alloc: Global, value: Value, came: u64) -> Result<(), AllocError>
         ensures { OnOk result (state_of self.new ≡ record (state_of self.old) {
           lines = (state_of self.old).lines
-              ++ line_after (view value) (new_line (name_of (view value))) ∷ [];
+              ++ line_after (record { object = view value; came = came }) (new_line (name_of (view value))) ∷ [];
         }) }
     {
         let name = String::from_str(alloc, name_of(&value))?;
         let mut line = Line::new(alloc, name);
-        line.take(alloc, value)?;
+        line.take(alloc, value, came)?;
         self.lines.push(line)?;
         Ok(())
     }

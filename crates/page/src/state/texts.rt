@@ -13,6 +13,7 @@ use crate::state::line::Line;
 use crate::state::link::{Linked, Refusal};
 use crate::state::page::Page;
 use crate::state::row::Row;
+use crate::state::silence::{Moment, silent};
 use serde_json::{Map, Value, json, put};
 use std::alloc::{AllocError, Global};
 
@@ -166,18 +167,23 @@ fn refusal_value(alloc: Global, refusal: &Refusal) -> Result<Value, AllocError>
 }
 
 /// A control line as an object.
-fn line_value(alloc: Global, line: &Line) -> Result<Value, AllocError>
-    ensures { IfOk result (λ value. view value ≡ line_data (line_of line.now)) }
+fn line_value(alloc: Global, now: u64, line: &Line) -> Result<Value, AllocError>
+    ensures { IfOk result (λ value. view value ≡ line_data now (line_of line.now)) }
 {
     let mut members = Map::new(alloc);
-    put_line(alloc, line, &mut members)?;
+    put_line(alloc, now, line, &mut members)?;
     Ok(Value::Object(members))
 }
 
 /// Puts the members of a control line into an object that has none.
-fn put_line(alloc: Global, line: &Line, members: &mut Map<String, Value>) -> Result<(), AllocError>
+fn put_line(
+    alloc: Global,
+    now: u64,
+    line: &Line,
+    members: &mut Map<String, Value>,
+) -> Result<(), AllocError>
     requires empty { members_view members.old.entries ≡ no_members }
-    ensures { OnOk result (object (members_view members.new.entries) ≡ line_data (line_of line.now)) }
+    ensures { OnOk result (object (members_view members.new.entries) ≡ line_data now (line_of line.now)) }
 {
     let services = services_value(alloc, line.air.rows())?;
     put(members, alloc, "counts", counts_value(alloc, &line.counts)?)?;
@@ -198,47 +204,69 @@ fn put_line(alloc: Global, line: &Line, members: &mut Map<String, Value>) -> Res
         refused_value(alloc, &line.refused)?,
     )?;
     put(members, alloc, "services", services)?;
+    put(members, alloc, "silent", Value::from(silent(now, line)))?;
     put(members, alloc, "since", since_value(alloc, &line.linked)?)?;
     Ok(())
 }
 
 /// Control lines as an array.
-fn lines_value(alloc: Global, lines: &[Line]) -> Result<Value, AllocError>
-    ensures { IfOk result (λ value. view value ≡ array (lines_data (map line_of lines.now))) }
+fn lines_value(alloc: Global, now: u64, lines: &[Line]) -> Result<Value, AllocError>
+    ensures { IfOk result (λ value. view value ≡ array (lines_data now (map line_of lines.now))) }
 {
     let mut list = Vec::new(alloc);
     for line in lines {
-        list.push(line_value(alloc, line)?)?;
+        list.push(line_value(alloc, now, line)?)?;
     }
     Ok(Value::Array(list))
 }
 
+/// For how many seconds nothing was told of a control line that is stale, or null.
+fn limit_value(stale: Option<u32>) -> Value
+    ensures { view result ≡ number_data stale }
+{
+    match stale {
+        Some(limit) => Value::from(limit),
+        None => Value::Null,
+    }
+}
+
 /// The state as an object of the kind `state`.
-fn state_value(alloc: Global, page: &Page) -> Result<Value, AllocError>
-    ensures { IfOk result (λ value. view value ≡ state_data (state_of page.now)) }
+fn state_value(alloc: Global, page: &Page, moment: Moment) -> Result<Value, AllocError>
+    ensures { IfOk result (λ value. view value ≡ state_data moment (state_of page.now)) }
 {
     let mut members = Map::new(alloc);
-    put_state(alloc, page, &mut members)?;
+    put_state(alloc, page, moment, &mut members)?;
     Ok(Value::Object(members))
 }
 
 /// Puts the members of the state into an object that has none.
-fn put_state(alloc: Global, page: &Page, members: &mut Map<String, Value>) -> Result<(), AllocError>
+fn put_state(
+    alloc: Global,
+    page: &Page,
+    moment: Moment,
+    members: &mut Map<String, Value>,
+) -> Result<(), AllocError>
     requires empty { members_view members.old.entries ≡ no_members }
-    ensures { OnOk result (object (members_view members.new.entries) ≡ state_data (state_of page.now)) }
+    ensures { OnOk result (object (members_view members.new.entries) ≡ state_data moment (state_of page.now)) }
 {
     put(members, alloc, "format", Value::from(1u8))?;
     put(members, alloc, "further", Value::from(page.further()))?;
     put(members, alloc, "kind", Value::try_from_str(alloc, "state")?)?;
-    put(members, alloc, "lines", lines_value(alloc, page.lines())?)?;
+    put(
+        members,
+        alloc,
+        "lines",
+        lines_value(alloc, moment.now, page.lines())?,
+    )?;
     put(members, alloc, "others", Value::from(page.others()))?;
+    put(members, alloc, "stale", limit_value(moment.stale))?;
     Ok(())
 }
 
-/// The state as an object of the kind `state`, as text with no space and no line feed.
-pub fn state_text(alloc: Global, page: &Page) -> Result<String, AllocError>
-    ensures { IfOk result (λ text. string_bytes text ≡ compact_text (state_data (state_of page.now))) }
+/// The state at this moment as an object of the kind `state`, as text with no space and no line feed.
+pub fn state_text(alloc: Global, page: &Page, moment: Moment) -> Result<String, AllocError>
+    ensures { IfOk result (λ text. string_bytes text ≡ compact_text (state_data moment (state_of page.now))) }
 {
-    let value = state_value(alloc, page)?;
+    let value = state_value(alloc, page, moment)?;
     value.to_string(alloc)
 }

@@ -1,5 +1,5 @@
 -- One service after another is told, if it is meant.
-use Rattle.std.proofs.Common.{rules, arith, ◌≡◌, ◌≤◌, ◌<◌, ◌+◌, suc, length, map, set, refl, ◌∙◌, ap}
+use Rattle.std.proofs.Common.{rules, arith, ◌≡◌, ◌≤◌, ◌<◌, ◌+◌, suc, length, map, refl, ◌∙◌, ap}
 use Rattle.std.proofs.lemmas.List.{length-map, length-set}
 use Rattle.serde_json.specs.View.{view}
 use Rattle.page.specs.StateView.{service_of}

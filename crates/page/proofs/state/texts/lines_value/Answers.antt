@@ -12,6 +12,6 @@ pub returns : goal.returns
 returns c =
     let end : length c.args.lines.now ≤ c.loop-line.line-index = search rules in
     view-Array c.loop-line.list ∙ ap array (ap items_of
-    (c.loop-line.invariant ∙ ap (map (λ r. line_data (line_of r)))
+    (c.loop-line.invariant ∙ ap (map (λ r. line_data c.args.now (line_of r)))
     (take_all c.loop-line.line-index c.args.lines.now end))
-    ∙ each_line line_of c.args.lines.now)
+    ∙ each_line c.args.now line_of c.args.lines.now)

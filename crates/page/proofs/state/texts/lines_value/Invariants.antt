@@ -6,4 +6,4 @@ use Rattle.page.specs.StateView.{line_of}
 use Rattle.page.proofs.state.texts.lines_value.Given as goal
 
 abbrev pub invariant-loop-line : goal.invariant-loop-line
-invariant-loop-line l = map view l.list.items ≡ map (λ r. line_data (line_of r)) (take l.line-index l.lines)
+invariant-loop-line l = map view l.list.items ≡ map (λ r. line_data l.now (line_of r)) (take l.line-index l.lines)

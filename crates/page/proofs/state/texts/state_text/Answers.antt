@@ -9,5 +9,5 @@ use Rattle.page.proofs.state.texts.state_text.Goals as goal
 pub returns : goal.returns
 returns c =
     let whole : has_float (view c.in_ok-value.value) ≡ false =
-    ap has_float c.in_ok-value.ensures ∙ no_float (state_of c.args.page.now) in
+    ap has_float c.in_ok-value.ensures ∙ no_float c.args.moment (state_of c.args.page.now) in
     IfOk-weaker c.to_string.result _ _ (λ t h. h whole ∙ ap compact_text c.in_ok-value.ensures) c.to_string.ensures.text

@@ -6,6 +6,7 @@ use Rattle.page_server.proofs.server.Serving.send_rest.Given as goal
 abbrev pub invariant-loop-turn : goal.invariant-loop-turn
 invariant-loop-turn g l = record {
   same : l.self.intake ≡ l.fn.self.intake;
+  limit : l.self.stale ≡ l.fn.self.stale;
   serving : IsServing g.C.Connection.talk l.self;
   caught_up : AllCaughtUp l.self;
 }

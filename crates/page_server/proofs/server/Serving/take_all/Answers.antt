@@ -1,4 +1,4 @@
-use Rattle.std.proofs.Common.{subst}
+use Rattle.std.proofs.Common.{refl, ◌∙◌, subst}
 use Rattle.page_server.specs.Serving.{Moves}
 use Rattle.page_server.proofs.Reading.{nothing_read, reads_then, reads_all_then, moves_on, moves_from, reads_to}
 use Rattle.page_server.proofs.server.Serving.take_all.Goals as goal
@@ -6,6 +6,7 @@ use Rattle.page_server.proofs.server.Serving.take_all.Goals as goal
 pub loop-turn-init : goal.loop-turn-init
 loop-turn-init g c = record {
   reads = nothing_read (g.R.Read.remaining c.args.reader.now) c.args.self.now.intake;
+  limit = refl;
   serving = c.requires.serving;
   caught_up = c.requires.caught_up;
 }
@@ -35,6 +36,8 @@ loop-turn-preserved g c =
           (moves_on between new i k c.in_ok-progress.progress c.in_default.not-Ended
           (moves_from between new c.turn.new.self.intake i k c.in_ok-progress.progress c.in_ok-turn.ensures.same
           c.in_ok-progress.ensures.moves)));
+      limit = c.settle.ensures.limit ∙ c.in_ok-progress.ensures.limit ∙ c.in_ok-turn.ensures.limit
+          ∙ c.loop-turn.invariant.limit;
       serving = c.settle.ensures.serving;
       caught_up = c.settle.ensures.caught_up;
     }

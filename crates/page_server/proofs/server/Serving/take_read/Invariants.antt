@@ -1,4 +1,4 @@
-use Rattle.std.proofs.Common.{[]}
+use Rattle.std.proofs.Common.{◌≡◌, []}
 use Rattle.page.specs.Input.{GoesOn}
 use Rattle.page_server.specs.Guesting.{AllCaughtUp, IsServing}
 use Rattle.page_server.proofs.server.Serving.take_read.Given as goal
@@ -7,6 +7,7 @@ use Rattle.page_server.proofs.server.Serving.take_read.Given as goal
 abbrev pub invariant-loop-line : goal.invariant-loop-line
 invariant-loop-line g l = record {
   goes_on : GoesOn [] l.fn.self.intake l.self.intake;
+  limit : l.self.stale ≡ l.fn.self.stale;
   serving : IsServing g.C.Connection.talk l.self;
   caught_up : AllCaughtUp l.self;
 }

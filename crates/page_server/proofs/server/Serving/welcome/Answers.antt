@@ -7,5 +7,5 @@ pub returns-clause-welcomes : goal.returns-clause-welcomes
 returns-clause-welcomes g c =
     let come : Serving g.row.C.Denot = record c.args.self.now { guests = c.add.new.self } in
     let P : ℕ → Type 0 = λ n. IsHeard g.C.Connection.talk g.C.Connection.origin g.C.Connection.numbered
-    g.C.Connection.reads n come c.hear.new.self in
-    (come, c.add.ensures.comes, refl, subst P c.number-number.ensures c.hear.ensures.hears)
+    g.C.Connection.reads g.S.Sockets.reads c.add.new.sockets n come c.hear.new.self in
+    (come, c.add.new.sockets, c.add.ensures.comes, refl, subst P c.number-number.ensures c.hear.ensures.hears)

@@ -1,5 +1,5 @@
 use Rattle.std.proofs.Common.{inl}
-use Rattle.page.specs.declared.clients.request.Route.TheVariants.{Page, Health, NotFound, OtherMethod}
+use Rattle.page.specs.declared.clients.request.Route.TheVariants.{Page, NotFound, OtherMethod}
 use Rattle.page.specs.declared.clients.request.Route.TheVariants.{Foreign}
 use Rattle.page.specs.ClientView.{source_of, standing_of}
 use Rattle.page.proofs.Told.{answered_as, with_body}
@@ -10,12 +10,6 @@ returns-in-Page-clause-replies c =
     answered_as (source_of c.args.site.now) c.args.self.now.server _ Page _ (standing_of c.args.self.now)
     (standing_of c.whole.new.self) c.in-Page.is c.whole.ensures.closes
     (inl (with_body _ _ _ _ _ _ c.whole.ensures.told c.as_bytes.ensures.value))
-
-pub returns-in-Health-clause-replies : goal.returns-in-Health-clause-replies
-returns-in-Health-clause-replies c =
-    answered_as (source_of c.args.site.now) c.args.self.now.server _ Health _ (standing_of c.args.self.now)
-    (standing_of c.whole-in-Health.new.self) c.in-Health.is c.whole-in-Health.ensures.closes
-    (inl c.whole-in-Health.ensures.told)
 
 pub returns-in-NotFound-clause-replies : goal.returns-in-NotFound-clause-replies
 returns-in-NotFound-clause-replies c =

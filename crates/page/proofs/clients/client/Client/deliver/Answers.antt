@@ -1,10 +1,10 @@
 -- Each turn writes a beginning of what waits, and puts events behind that.
-use Rattle.std.proofs.Common.{refl, ◌∙◌, rules, arith, ◌≡◌, ◌≤◌, ◌+◌, length}
+use Rattle.std.proofs.Common.{◌∙◌, rules, arith, ◌≤◌, ◌+◌}
 use Rattle.std.proofs.lemmas.Result.{err_from_is_err_and}
 use Rattle.page.specs.ClientView.{standing_of}
 use Rattle.page.specs.Delivering.{IsServed}
-use Rattle.page.proofs.Delivered.{since_begun, since_caught, since_written, since_fewer, told_not_now, told_gone}
-use Rattle.page.proofs.Delivered.{told_all, told_long, told_so_far, on_err}
+use Rattle.page.proofs.Delivered.{since_begun, since_caught, since_written, since_fewer}
+use Rattle.page.proofs.Delivered.{told_so_far, on_err}
 use Rattle.page.proofs.clients.client.Client.deliver.Goals as goal
 
 pub returns-in_err-catch_up-clause-sends : goal.returns-in_err-catch_up-clause-sends

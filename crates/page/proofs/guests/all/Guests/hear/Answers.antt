@@ -24,12 +24,12 @@ give_events-requires g c =
     let d = c.index_mut.result.now in
     let g' = c.hear.new.guest in
     let more = c.in-Some.ensures.some.0 in
-    let hears = heard_from talk reads shown past c.args.seconds own_only c.site-site.result.own_only c.is_full.result
+    let hears = heard_from talk reads shown past c.args.moment own_only c.site-site.result.own_only c.is_full.result
     room now place d g' c.hear.result (source_of c.site-site.result) c.site-site.ensures.source c.is_full.ensures
     c.site-site.ensures.own_only c.index_mut.ensures.value c.hear.ensures in
-    let P : Bool → Type 0 = λ b. HearsThen talk reads (source_in talk reads shown past c.args.seconds room) own_only
+    let P : Bool → Type 0 = λ b. HearsThen talk reads (source_in talk reads shown past c.args.moment room) own_only
     (get_or now place d) b g' in
-    let heard = heard_stays talk reads g.C.Connection.origin c.origin.result shown past c.args.seconds own_only room now
+    let heard = heard_stays talk reads g.C.Connection.origin c.origin.result shown past c.args.moment own_only room now
     place d g' c.requires more c.room_for-room.ensures (subst P c.if-hear.true hears) in
     subst (λ (p : Past). AreHeard talk room own_only p (set now place g')) (sym c.history.ensures) heard
 
@@ -47,14 +47,14 @@ returns-then-hear-clause-hears g c =
     let d = c.index_mut.result.now in
     let g' = c.hear.new.guest in
     let more = c.in-Some.ensures.some.0 in
-    let hears = heard_from talk reads shown past c.args.seconds own_only c.site-site.result.own_only c.is_full.result
+    let hears = heard_from talk reads shown past c.args.moment own_only c.site-site.result.own_only c.is_full.result
     room now place d g' c.hear.result (source_of c.site-site.result) c.site-site.ensures.source c.is_full.ensures
     c.site-site.ensures.own_only c.index_mut.ensures.value c.hear.ensures in
-    let P : Bool → Type 0 = λ b. HearsThen talk reads (source_in talk reads shown past c.args.seconds room) own_only
+    let P : Bool → Type 0 = λ b. HearsThen talk reads (source_in talk reads shown past c.args.moment room) own_only
     (get_or now place d) b g' in
     let has = room_here talk reads origin c.origin.result room now place d c.index.result.now more c.index.ensures
     c.origin.ensures c.room_for-room.ensures in
-    inr (heard_one talk reads origin g.C.Connection.numbered c.args.number shown past c.args.seconds own_only room now
+    inr (heard_one talk reads origin g.C.Connection.numbered c.args.number shown past c.args.moment own_only room now
     place d g' c.give_events.new.self.guests.items more (c.in-Some.ensures.some.1 d) has (subst P c.if-hear.true hears)
     c.give_events.ensures.gives)
 
@@ -71,10 +71,10 @@ close-requires g c =
     let d = c.index_mut.result.now in
     let g' = c.hear.new.guest in
     let more = c.in-Some.ensures.some.0 in
-    let hears = heard_from talk reads shown past c.args.seconds own_only c.site-site.result.own_only c.is_full.result
+    let hears = heard_from talk reads shown past c.args.moment own_only c.site-site.result.own_only c.is_full.result
     room now place d g' c.hear.result (source_of c.site-site.result) c.site-site.ensures.source c.is_full.ensures
     c.site-site.ensures.own_only c.index_mut.ensures.value c.hear.ensures in
-    let lives = heard_lived talk reads shown past c.args.seconds own_only room now place d g' c.hear.result c.requires
+    let lives = heard_lived talk reads shown past c.args.moment own_only room now place d g' c.hear.result c.requires
     more hears in
     let is = c.remove-guest.ensures.value ∙ get_set now place g' c.remove-guest.result more in
     lived talk own_only past g' c.leave.result lives
@@ -104,14 +104,14 @@ returns-else-hear-clause-hears g c =
     let d = c.index_mut.result.now in
     let g' = c.hear.new.guest in
     let more = c.in-Some.ensures.some.0 in
-    let hears = heard_from talk reads shown past c.args.seconds own_only c.site-site.result.own_only c.is_full.result
+    let hears = heard_from talk reads shown past c.args.moment own_only c.site-site.result.own_only c.is_full.result
     room now place d g' c.hear.result (source_of c.site-site.result) c.site-site.ensures.source c.is_full.ensures
     c.site-site.ensures.own_only c.index_mut.ensures.value c.hear.ensures in
-    let P : Bool → Type 0 = λ b. HearsThen talk reads (source_in talk reads shown past c.args.seconds room) own_only
+    let P : Bool → Type 0 = λ b. HearsThen talk reads (source_in talk reads shown past c.args.moment room) own_only
     (get_or now place d) b g' in
     let has = room_here talk reads origin c.origin.result room now place d c.index.result.now more c.index.ensures
     c.origin.ensures c.room_for-room.ensures in
-    inr (heard_gone talk reads origin g.C.Connection.numbered c.args.number shown past c.args.seconds own_only room now
+    inr (heard_gone talk reads origin g.C.Connection.numbered c.args.number shown past c.args.moment own_only room now
     place d g' c.remove-guest.new.self.items c.requires more (c.in-Some.ensures.some.1 d) has
     (subst P c.if-hear.false hears) c.remove-guest.ensures.by_index.2)
 
@@ -129,16 +129,16 @@ returns-then-hear-clause-caught_up g c =
     let d = c.index_mut.result.now in
     let g' = c.hear.new.guest in
     let more = c.in-Some.ensures.some.0 in
-    let hears = heard_from talk reads shown past c.args.seconds own_only c.site-site.result.own_only c.is_full.result
+    let hears = heard_from talk reads shown past c.args.moment own_only c.site-site.result.own_only c.is_full.result
     room now place d g' c.hear.result (source_of c.site-site.result) c.site-site.ensures.source c.is_full.ensures
     c.site-site.ensures.own_only c.index_mut.ensures.value c.hear.ensures in
-    let P : Bool → Type 0 = λ b. HearsThen talk reads (source_in talk reads shown past c.args.seconds room) own_only
+    let P : Bool → Type 0 = λ b. HearsThen talk reads (source_in talk reads shown past c.args.moment room) own_only
     (get_or now place d) b g' in
     let has = room_here talk reads origin c.origin.result room now place d c.index.result.now more c.index.ensures
     c.origin.ensures c.room_for-room.ensures in
-    caught_heard talk past origin g.C.Connection.numbered reads c.args.number shown c.args.seconds own_only now
+    caught_heard talk past origin g.C.Connection.numbered reads c.args.number shown c.args.moment own_only now
     c.give_events.new.self.guests.items
-    (heard_one talk reads origin g.C.Connection.numbered c.args.number shown past c.args.seconds own_only room now
+    (heard_one talk reads origin g.C.Connection.numbered c.args.number shown past c.args.moment own_only room now
     place d g' c.give_events.new.self.guests.items more (c.in-Some.ensures.some.1 d) has (subst P c.if-hear.true hears)
     c.give_events.ensures.gives)
 
@@ -156,15 +156,15 @@ returns-else-hear-clause-caught_up g c =
     let d = c.index_mut.result.now in
     let g' = c.hear.new.guest in
     let more = c.in-Some.ensures.some.0 in
-    let hears = heard_from talk reads shown past c.args.seconds own_only c.site-site.result.own_only c.is_full.result
+    let hears = heard_from talk reads shown past c.args.moment own_only c.site-site.result.own_only c.is_full.result
     room now place d g' c.hear.result (source_of c.site-site.result) c.site-site.ensures.source c.is_full.ensures
     c.site-site.ensures.own_only c.index_mut.ensures.value c.hear.ensures in
-    let P : Bool → Type 0 = λ b. HearsThen talk reads (source_in talk reads shown past c.args.seconds room) own_only
+    let P : Bool → Type 0 = λ b. HearsThen talk reads (source_in talk reads shown past c.args.moment room) own_only
     (get_or now place d) b g' in
     let has = room_here talk reads origin c.origin.result room now place d c.index.result.now more c.index.ensures
     c.origin.ensures c.room_for-room.ensures in
-    caught_heard talk past origin g.C.Connection.numbered reads c.args.number shown c.args.seconds own_only now
+    caught_heard talk past origin g.C.Connection.numbered reads c.args.number shown c.args.moment own_only now
     c.remove-guest.new.self.items
-    (heard_gone talk reads origin g.C.Connection.numbered c.args.number shown past c.args.seconds own_only room now
+    (heard_gone talk reads origin g.C.Connection.numbered c.args.number shown past c.args.moment own_only room now
     place d g' c.remove-guest.new.self.items c.requires more (c.in-Some.ensures.some.1 d) has
     (subst P c.if-hear.false hears) c.remove-guest.ensures.by_index.2)

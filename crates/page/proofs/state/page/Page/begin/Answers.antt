@@ -16,5 +16,5 @@ returns c =
     (ap (map line_of) c.in_ok-push.ensures.items
     ∙ map-append line_of c.args.self.now.lines.items (c.take.new.self ∷ [])
     ∙ ap (λ l. map line_of c.args.self.now.lines.items ++ l ∷ [])
-    (c.in_ok-take.ensures ∙ ap (line_after (view c.args.value))
+    (c.in_ok-take.ensures ∙ ap (line_after (record { object = view c.args.value; came = c.args.came }))
     (c.new-line.ensures ∙ ap new_line (c.in_ok-name.ensures.ok ∙ c.name_of.ensures))))
