@@ -172,16 +172,25 @@ offered_may_stand region what.FirstWord = (
           (
             first region head.Traffic,
             (
-              first region head.Music,
+              first region head.Ta,
               (
-                first region head.Speech,
+                first region head.Tp,
                 (
-                  first region head.Ms,
+                  first region head.Music,
                   (
-                    first region head.Pty,
+                    first region head.Speech,
                     (
-                      first region head.Set,
-                      (first region head.Group, (first region head.Ack, (first region head.Raw, (tt)))),
+                      first region head.Ms,
+                      (
+                        first region head.Pty,
+                        (
+                          first region head.Set,
+                          (
+                            first region head.Group,
+                            (first region head.Ack, (first region head.Raw, (tt))),
+                          ),
+                        ),
+                      ),
                     ),
                   ),
                 ),
@@ -204,12 +213,18 @@ offered_may_stand region what.WordInSet = (
         (
           placed_in_set region head.Traffic refl,
           (
-            placed_in_set region head.Music refl,
+            placed_in_set region head.Ta refl,
             (
-              placed_in_set region head.Speech refl,
+              placed_in_set region head.Tp refl,
               (
-                placed_in_set region head.Ms refl,
-                (placed_in_set region head.Pty refl, (tt)),
+                placed_in_set region head.Music refl,
+                (
+                  placed_in_set region head.Speech refl,
+                  (
+                    placed_in_set region head.Ms refl,
+                    (placed_in_set region head.Pty refl, (tt)),
+                  ),
+                ),
               ),
             ),
           ),
@@ -227,10 +242,16 @@ offered_may_stand region what.WordForService = (
       (
         placed region head.Traffic refl,
         (
-          placed region head.Music refl,
+          placed region head.Ta refl,
           (
-            placed region head.Speech refl,
-            (placed region head.Ms refl, (placed region head.Pty refl, (tt))),
+            placed region head.Tp refl,
+            (
+              placed region head.Music refl,
+              (
+                placed region head.Speech refl,
+                (placed region head.Ms refl, (placed region head.Pty refl, (tt))),
+              ),
+            ),
           ),
         ),
       ),
@@ -257,6 +278,7 @@ offered_may_stand region what.Traffic = (
     ),
   ),
 )
+offered_may_stand region what.Switch = (inl (false, refl), (inl (true, refl), tt))
 offered_may_stand region what.ProgrammeType = all_join (Stands region what.ProgrammeType)
     (words_at what.ProgrammeType) (names_below region 32) (inl (inr (inr refl)), tt) (names_stand region 32)
 offered_may_stand region (what.Choice add same times) = choices region add same times

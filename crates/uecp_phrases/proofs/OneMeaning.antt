@@ -5,7 +5,7 @@ use Rattle.std.proofs.Common.{codes, flat_map, Some, None, Option, Ok, refl, sym
 use Rattle.std.proofs.Common.{if◌then◌else◌}
 use Rattle.hex.specs.Hex.{decode_sized}
 use Rattle.uecp_frame.specs.Frame.{high_first}
-use Rattle.uecp_elements.specs.Grammar.{Part, NoText, Text, Rt, spelling}
+use Rattle.uecp_elements.specs.Grammar.{Part, NoText, Text, TaTp, Rt, spelling}
 use Rattle.uecp_text.specs.Words.{IsByte, IsNumber, decimal_in}
 use Rattle.rds_text.specs.declared.programme_type.Region.{Region}
 use Rattle.rds_text.specs.ProgrammeTypes.{HasName}
@@ -14,7 +14,7 @@ use Rattle.phrase_tokens.specs.Tokens.{Token, Word, Quoted}
 use Rattle.uecp_phrases.specs.declared.head.Head.{Head}
 use Rattle.uecp_phrases.specs.declared.head.Head.TheVariants as head
 use Rattle.uecp_phrases.specs.Phrases.{AreBits, IsPi, IsName, IsTrafficWord, IsTraffic, IsProgrammeType, Choice, Adds}
-use Rattle.uecp_phrases.specs.Phrases.{Toggles, Stays, Times}
+use Rattle.uecp_phrases.specs.Phrases.{Toggles, Stays, Times, IsSwitch, announcing, giving}
 use Rattle.uecp_phrases.specs.Phrases.{Choices}
 use Rattle.uecp_phrases.specs.Phrases.{choice_tokens, AreMade, no_choice, head_of, IsRadioText, IsGroupType}
 use Rattle.uecp_phrases.specs.Phrases.{added_tokens, IsGroup, IsAck, AreRaw, IsSelected, Tells, head_word, IsPhrase}
@@ -47,6 +47,14 @@ bits_one tokens a b (v, p, x) (w, q, y) =
 bits_no_word : (tokens : List Token) (a : ℕ) (t : Token) → AreBits tokens a → tokens ≡ t ∷ [] → ⊥
 bits_no_word tokens a t (v, p, x) q =
     let e : Word (codes "bits") ∷ Word v ∷ [] ≡ t ∷ [] = sym p ∙ q in cc e
+
+pub switch_one : (tokens : List Token) (a b : Bool) → IsSwitch tokens a → IsSwitch tokens b → a ≡ b
+switch_one tokens true true p q = refl
+switch_one tokens false false p q = refl
+switch_one tokens true false p q =
+    let e : Word (codes "on") ∷ [] ≡ Word (codes "off") ∷ [] = sym p ∙ q in absurd (cc e)
+switch_one tokens false true p q =
+    let e : Word (codes "off") ∷ [] ≡ Word (codes "on") ∷ [] = sym p ∙ q in absurd (cc e)
 
 pi_one : (tokens : List Token) (a b : ℕ) → IsPi tokens a → IsPi tokens b → high_first a ≡ high_first b
 pi_one tokens a b (v, p, x) (w, q, y) =
@@ -89,7 +97,7 @@ traffic_word_one v w a b s (inr (inr (inr (p, x)))) (inr (inr (inl (q, y)))) =
     let e : codes "announcement" ≡ codes "programme" = sym p ∙ s ∙ q in absurd (cc e)
 traffic_word_one v w a b s (inr (inr (inr (p, x)))) (inr (inr (inr (q, y)))) = x ∙ sym y
 
-traffic_one : (tokens : List Token) (a b : ℕ) → IsTraffic tokens a → IsTraffic tokens b → a ≡ b
+pub traffic_one : (tokens : List Token) (a b : ℕ) → IsTraffic tokens a → IsTraffic tokens b → a ≡ b
 traffic_one tokens a b (inl (v, p, x)) (inl (w, q, y)) =
     let e : Word v ∷ [] ≡ Word w ∷ [] = sym p ∙ q in
     let same : v ≡ w = cc in traffic_word_one v w a b same x y
@@ -286,6 +294,10 @@ told_one region head.Ps placed dsn psn tokens a b (m, p, x) (n, q, y) =
 told_one region head.Rt placed dsn psn tokens a b (m, p, x) (n, q, y) = x ∙ text_one tokens dsn psn m n p q ∙ sym y
 told_one region head.Traffic placed dsn psn tokens a b (m, p, x) (n, q, y) =
     x ∙ ap (λ r. 0x03 ∷ dsn ∷ psn ∷ r ∷ []) (traffic_one tokens m n p q) ∙ sym y
+told_one region head.Ta placed dsn psn tokens a b (on, p, x) (off, q, y) =
+    x ∙ ap (λ r. spelling (TaTp dsn psn (announcing r))) (switch_one tokens on off p q) ∙ sym y
+told_one region head.Tp placed dsn psn tokens a b (on, p, x) (off, q, y) =
+    x ∙ ap (λ r. spelling (TaTp dsn psn (giving r))) (switch_one tokens on off p q) ∙ sym y
 told_one region head.Music placed dsn psn tokens a b (_, x) (_, y) = x ∙ sym y
 told_one region head.Speech placed dsn psn tokens a b (_, x) (_, y) = x ∙ sym y
 told_one region head.Ms placed dsn psn tokens a b (m, p, x) (n, q, y) =

@@ -24,6 +24,8 @@ marked n =
     else if eqb n 227 then head.Ps
     else if eqb n 230 then head.Rt
     else if eqb n 735 then head.Traffic
+    else if eqb n 213 then head.Ta
+    else if eqb n 228 then head.Tp
     else if eqb n 545 then head.Music
     else if eqb n 632 then head.Speech
     else if eqb n 224 then head.Ms
@@ -38,6 +40,8 @@ by_mark head.Pi = refl
 by_mark head.Ps = refl
 by_mark head.Rt = refl
 by_mark head.Traffic = refl
+by_mark head.Ta = refl
+by_mark head.Tp = refl
 by_mark head.Music = refl
 by_mark head.Speech = refl
 by_mark head.Ms = refl
@@ -56,6 +60,8 @@ other_mark head.Pi = (refl, refl)
 other_mark head.Ps = (refl, refl)
 other_mark head.Rt = (refl, refl)
 other_mark head.Traffic = (refl, refl)
+other_mark head.Ta = (refl, refl)
+other_mark head.Tp = (refl, refl)
 other_mark head.Music = (refl, refl)
 other_mark head.Speech = (refl, refl)
 other_mark head.Ms = (refl, refl)

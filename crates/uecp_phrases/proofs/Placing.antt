@@ -11,6 +11,7 @@ use Rattle.uecp_phrases.specs.declared.head.Head.TheVariants as head
 use Rattle.uecp_phrases.specs.declared.expectation.Expectation.{Expectation}
 use Rattle.uecp_phrases.specs.declared.expectation.Expectation.TheVariants as what
 use Rattle.uecp_phrases.specs.Phrases.{IsSet, set_said, service_said, IsInSet, IsForService, head_word, Tells, IsPhrase}
+use Rattle.uecp_phrases.specs.Phrases.{announcing, giving}
 use Rattle.uecp_phrases.specs.Reading.{IsBefore, BeginWith, or_zero}
 use Rattle.uecp_phrases.specs.Expecting.{acts_somewhere, MayStand, IsNext, IsStop, IsRead, IsLong, IsUnread}
 use Rattle.uecp_phrases.specs.Stops.{Told, IsNotFirst, IsStopBefore, IsNoHead, word_wanted}
@@ -31,6 +32,8 @@ retold region head.Pi placed dsn psn l bytes (n, is, _) = (spelling (Pi 0 0 n), 
 retold region head.Ps placed dsn psn l bytes (n, is, _) = (spelling (Ps 0 0 n), (n, is, refl))
 retold region head.Rt placed dsn psn l bytes (n, is, _) = (spelling (Rt 0 0 n), (n, is, refl))
 retold region head.Traffic placed dsn psn l bytes (n, is, _) = (spelling (TaTp 0 0 n), (n, is, refl))
+retold region head.Ta placed dsn psn l bytes (on, is, _) = (spelling (TaTp 0 0 (announcing on)), (on, is, refl))
+retold region head.Tp placed dsn psn l bytes (on, is, _) = (spelling (TaTp 0 0 (giving on)), (on, is, refl))
 retold region head.Music placed dsn psn l bytes (is, _) = (spelling (Ms 0 0 1), (is, refl))
 retold region head.Speech placed dsn psn l bytes (is, _) = (spelling (Ms 0 0 0), (is, refl))
 retold region head.Ms placed dsn psn l bytes (n, is, _) = (spelling (Ms 0 0 n), (n, is, refl))
@@ -47,6 +50,8 @@ acts region head.Pi placed dsn psn l bytes told is = refl
 acts region head.Ps placed dsn psn l bytes told is = refl
 acts region head.Rt placed dsn psn l bytes told is = refl
 acts region head.Traffic placed dsn psn l bytes told is = refl
+acts region head.Ta placed dsn psn l bytes told is = refl
+acts region head.Tp placed dsn psn l bytes told is = refl
 acts region head.Music placed dsn psn l bytes told is = refl
 acts region head.Speech placed dsn psn l bytes told is = refl
 acts region head.Ms placed dsn psn l bytes told is = refl
@@ -63,6 +68,10 @@ told_there region head.Pi placed dsn psn l may (bytes, (n, is, _)) = (spelling (
 told_there region head.Ps placed dsn psn l may (bytes, (n, is, _)) = (spelling (Ps dsn psn n), (n, is, refl))
 told_there region head.Rt placed dsn psn l may (bytes, (n, is, _)) = (spelling (Rt dsn psn n), (n, is, refl))
 told_there region head.Traffic placed dsn psn l may (bytes, (n, is, _)) = (spelling (TaTp dsn psn n), (n, is, refl))
+told_there region head.Ta placed dsn psn l may (bytes, (on, is, _)) =
+    (spelling (TaTp dsn psn (announcing on)), (on, is, refl))
+told_there region head.Tp placed dsn psn l may (bytes, (on, is, _)) =
+    (spelling (TaTp dsn psn (giving on)), (on, is, refl))
 told_there region head.Music placed dsn psn l may (bytes, (is, _)) = (spelling (Ms dsn psn 1), (is, refl))
 told_there region head.Speech placed dsn psn l may (bytes, (is, _)) = (spelling (Ms dsn psn 0), (is, refl))
 told_there region head.Ms placed dsn psn l may (bytes, (n, is, _)) = (spelling (Ms dsn psn n), (n, is, refl))

@@ -12,7 +12,7 @@ use Rattle.uecp_phrases.specs.declared.head.Head.{Head}
 use Rattle.uecp_phrases.specs.declared.head.Head.TheVariants as head
 use Rattle.uecp_phrases.specs.Phrases.{Choice, Adds, Toggles, Stays, Times, Choices, choice_tokens, AreMade, no_choice}
 use Rattle.uecp_phrases.specs.Phrases.{is_turned, times_of, head_of, IsRadioText, head_word, set_said}
-use Rattle.uecp_phrases.specs.Phrases.{service_said, Tells, IsPhrase}
+use Rattle.uecp_phrases.specs.Phrases.{service_said, announcing, giving, Tells, IsPhrase}
 use Rattle.uecp_phrases.specs.Lines.{ends_phrase, phrases_in, AddEach}
 use Rattle.uecp_phrases.specs.Laws.{IsPlain, Turns, AreTurning, TextsTurn}
 
@@ -103,6 +103,10 @@ told_turns region head.Rt placed dsn psn tokens bytes plain (part, is, spelled) 
     text_turns dsn psn part tokens bytes plain.1 is spelled
 told_turns region head.Traffic placed dsn psn tokens bytes plain (raw, is, spelled) =
     record { element = TaTp dsn psn raw; spelled = spelled; is_one = tt; turns = tt }
+told_turns region head.Ta placed dsn psn tokens bytes plain (on, is, spelled) =
+    record { element = TaTp dsn psn (announcing on); spelled = spelled; is_one = tt; turns = tt }
+told_turns region head.Tp placed dsn psn tokens bytes plain (on, is, spelled) =
+    record { element = TaTp dsn psn (giving on); spelled = spelled; is_one = tt; turns = tt }
 told_turns region head.Music placed dsn psn tokens bytes plain (none, spelled) =
     record { element = Ms dsn psn 1; spelled = spelled; is_one = tt; turns = tt }
 told_turns region head.Speech placed dsn psn tokens bytes plain (none, spelled) =

@@ -8,7 +8,7 @@ use Rattle.uecp_phrases.specs.declared.head.Head.{Head}
 use Rattle.uecp_phrases.specs.declared.head.Head.TheVariants as head
 use Rattle.uecp_phrases.specs.declared.expectation.Expectation.{Expectation}
 use Rattle.uecp_phrases.specs.declared.expectation.Expectation.TheVariants as what
-use Rattle.uecp_phrases.specs.Phrases.{IsSet, IsTrafficWord, IsGroupType, head_word, IsPhrase}
+use Rattle.uecp_phrases.specs.Phrases.{IsSet, IsTrafficWord, IsGroupType, switch_word, head_word, IsPhrase}
 
 -- Whether a phrase of this first word may say where it acts.
 abbrev pub acts_somewhere : Head → Bool
@@ -39,6 +39,7 @@ MayStand region what.RadioText t =
 MayStand region what.Bits t = t ≡ Word (codes "bits")
 MayStand region what.Traffic t =
     ((w : List ℕ) × (raw : ℕ) × (t ≡ Word w) × IsTrafficWord w raw) ⊎ (t ≡ Word (codes "bits"))
+MayStand region what.Switch t = (on : Bool) × (t ≡ Word (switch_word on))
 MayStand region what.ProgrammeType t =
     ((name : List ℕ) × (raw : ℕ) × (t ≡ Quoted name) × HasName region raw name)
     ⊎ (((w : List ℕ) × (raw : ℕ) × (t ≡ Word w) × (decimal_in 31 w ≡ Some raw)) ⊎ (t ≡ Word (codes "bits")))

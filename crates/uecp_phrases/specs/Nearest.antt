@@ -20,18 +20,20 @@ use Rattle.uecp_phrases.specs.Phrases.{head_word}
 -- types. Digits and texts are offered nowhere.
 abbrev pub words_at : Expectation → List (List ℕ)
 words_at what.FirstWord =
-    codes "in" ∷ codes "for" ∷ codes "pi" ∷ codes "ps" ∷ codes "rt" ∷ codes "traffic" ∷ codes "music"
-    ∷ codes "speech" ∷ codes "ms" ∷ codes "pty" ∷ codes "set" ∷ codes "group" ∷ codes "ack" ∷ codes "raw" ∷ []
+    codes "in" ∷ codes "for" ∷ codes "pi" ∷ codes "ps" ∷ codes "rt" ∷ codes "traffic" ∷ codes "ta"
+    ∷ codes "tp" ∷ codes "music" ∷ codes "speech" ∷ codes "ms" ∷ codes "pty" ∷ codes "set" ∷ codes "group"
+    ∷ codes "ack" ∷ codes "raw" ∷ []
 words_at what.WordInSet =
-    codes "for" ∷ codes "pi" ∷ codes "ps" ∷ codes "rt" ∷ codes "traffic" ∷ codes "music" ∷ codes "speech"
-    ∷ codes "ms" ∷ codes "pty" ∷ []
+    codes "for" ∷ codes "pi" ∷ codes "ps" ∷ codes "rt" ∷ codes "traffic" ∷ codes "ta" ∷ codes "tp"
+    ∷ codes "music" ∷ codes "speech" ∷ codes "ms" ∷ codes "pty" ∷ []
 words_at what.WordForService =
-    codes "pi" ∷ codes "ps" ∷ codes "rt" ∷ codes "traffic" ∷ codes "music" ∷ codes "speech" ∷ codes "ms"
-    ∷ codes "pty" ∷ []
+    codes "pi" ∷ codes "ps" ∷ codes "rt" ∷ codes "traffic" ∷ codes "ta" ∷ codes "tp" ∷ codes "music"
+    ∷ codes "speech" ∷ codes "ms" ∷ codes "pty" ∷ []
 words_at what.DataSet = codes "all" ∷ codes "others" ∷ []
 words_at what.RadioText = codes "clear" ∷ codes "bits" ∷ []
 words_at what.Traffic =
     codes "none" ∷ codes "eon" ∷ codes "programme" ∷ codes "announcement" ∷ codes "bits" ∷ []
+words_at what.Switch = codes "off" ∷ codes "on" ∷ []
 words_at what.Bits = codes "bits" ∷ []
 words_at what.ProgrammeType = codes "bits" ∷ []
 words_at what.GroupType = codes "bits" ∷ []

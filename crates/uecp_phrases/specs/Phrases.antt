@@ -48,6 +48,8 @@ head_word head.Pi = codes "pi"
 head_word head.Ps = codes "ps"
 head_word head.Rt = codes "rt"
 head_word head.Traffic = codes "traffic"
+head_word head.Ta = codes "ta"
+head_word head.Tp = codes "tp"
 head_word head.Music = codes "music"
 head_word head.Speech = codes "speech"
 head_word head.Ms = codes "ms"
@@ -81,6 +83,23 @@ IsTrafficWord word raw =
 abbrev pub IsTraffic : List Token → ℕ → Type 0
 IsTraffic tokens raw =
     ((word : List ℕ) × (tokens ≡ Word word ∷ []) × IsTrafficWord word raw) ⊎ AreBits tokens raw
+
+-- A switch: the word on or the word off, and no other.
+abbrev pub switch_word : (on : Bool) → List ℕ
+switch_word true = codes "on"
+switch_word false = codes "off"
+
+abbrev pub IsSwitch : List Token → (on : Bool) → Type 0
+IsSwitch tokens on = tokens ≡ Word (switch_word on) ∷ []
+
+-- What a station switches of its traffic flags. An announcement is given by a programme that gives them, and leaves it
+-- one: TP and TA while it is on, TP alone when it is off. A programme gives announcements, TP, or none (SPB 490; words:
+-- profile).
+abbrev pub announcing : (on : Bool) → ℕ
+announcing on = if on then 3 else 2
+
+abbrev pub giving : (on : Bool) → ℕ
+giving on = if on then 2 else 0
 
 -- A programme type: a name of the region, a number up to 31, or a byte.
 abbrev pub IsProgrammeType : Region → List Token → ℕ → Type 0
@@ -201,6 +220,10 @@ Tells region head.Rt placed dsn psn tokens bytes =
     (part : Part) × IsRadioText tokens part × (bytes ≡ spelling (Rt dsn psn part))
 Tells region head.Traffic placed dsn psn tokens bytes =
     (raw : ℕ) × IsTraffic tokens raw × (bytes ≡ spelling (TaTp dsn psn raw))
+Tells region head.Ta placed dsn psn tokens bytes =
+    (on : Bool) × IsSwitch tokens on × (bytes ≡ spelling (TaTp dsn psn (announcing on)))
+Tells region head.Tp placed dsn psn tokens bytes =
+    (on : Bool) × IsSwitch tokens on × (bytes ≡ spelling (TaTp dsn psn (giving on)))
 Tells region head.Music placed dsn psn tokens bytes = (tokens ≡ []) × (bytes ≡ spelling (Ms dsn psn 1))
 Tells region head.Speech placed dsn psn tokens bytes = (tokens ≡ []) × (bytes ≡ spelling (Ms dsn psn 0))
 Tells region head.Ms placed dsn psn tokens bytes = (raw : ℕ) × AreBits tokens raw × (bytes ≡ spelling (Ms dsn psn raw))
