@@ -2,12 +2,15 @@
 use Rattle.std.proofs.Common.{◌≡◌, ◌⊎◌, ℕ, zero, suc, ◌+◌, ◌≤◌, ◌<◌, Bool, true, false, List, [], ◌∷◌, ◌++◌, Option}
 use Rattle.std.proofs.Common.{Some}
 use Rattle.std.proofs.Common.{None, refl, ◌∙◌, ap, sym, subst, arith, inl, inr, codes, append_assoc}
-use Rattle.std.proofs.Common.{length, map, take, get_or}
+use Rattle.std.proofs.Common.{length, map, take, get_or, slice_get}
 use Rattle.std.specs.Option.{option_map}
+use Rattle.std.proofs.lemmas.Option.{slice_get-map, slice_get_read, slice_get_past}
 use Rattle.std.specs.List.{AllByRecursion}
 use Rattle.rds_text.specs.declared.programme_type.Region.{Region}
 use Rattle.rds_text.specs.ProgrammeTypes.{name_of}
 use Rattle.phrase_tokens.specs.Tokens.{Token, Word, Quoted}
+use Rattle.phrase_tokens.specs.declared.token.Token.{Token as Held}
+use Rattle.phrase_tokens.specs.View.{token_of, tokens_of}
 use Rattle.uecp_phrases.specs.declared.expectation.Expectation.{Expectation}
 use Rattle.uecp_phrases.specs.declared.expectation.Expectation.TheVariants as what
 use Rattle.uecp_phrases.specs.declared.head.Head.{Head}
@@ -16,7 +19,7 @@ use Rattle.uecp_phrases.specs.Expecting.{MayStand, acts_somewhere}
 use Rattle.uecp_phrases.specs.Phrases.{head_word}
 use Rattle.uecp_phrases.specs.declared.nearest.Near.{Near}
 use Rattle.uecp_phrases.specs.Nearest.{words_at, the_name, names_below, name_count, offered, OfferedMayStand, IsNear}
-use Rattle.uecp_phrases.specs.Nearest.{IsNearest, IsFound, IsFirstWord, Offers, letters_of, distance}
+use Rattle.uecp_phrases.specs.Nearest.{IsNearest, IsFound, IsFirstWord, Offers, OffersAt, letters_of, distance}
 
 all_more : {A : Type 0} (P : A → Type 0) (xs : List A) (y : A) → AllByRecursion P xs → P y
     → AllByRecursion P (xs ++ y ∷ [])
@@ -107,6 +110,23 @@ offers_found region expected t letters words count before found letters_are word
           (subst (λ n. IsNearest letters (words_at expected ++ names_below region n) near) count_is
           (subst (λ ws. IsNearest letters (ws ++ names_below region count) near) words_are all.0)),
     )
+
+-- what is offered for the token of an index
+pub offers_at : (region : Region) (expected : Expectation) (tokens : List Held) (index : ℕ) (t : Held)
+    (near : Option (List ℕ)) → index < length tokens → t ≡ get_or tokens index t
+    → Offers region expected (token_of t) near → OffersAt region expected (tokens_of tokens) index near
+offers_at region expected tokens index t near within is offers =
+    let one : slice_get (tokens_of tokens) index ≡ Some (token_of t) = slice_get-map token_of tokens index
+    ∙ ap (option_map token_of) (slice_get_read tokens (length tokens) index t refl within is) in
+    rw one offers
+
+-- nothing is behind the last
+pub offers_none : (region : Region) (expected : Expectation) (tokens : List Held) (index : ℕ) (near : Option (List ℕ))
+    → length tokens ≤ index → near ≡ None → OffersAt region expected (tokens_of tokens) index near
+offers_none region expected tokens index near past none =
+    let no : slice_get (tokens_of tokens) index ≡ None =
+    slice_get-map token_of tokens index ∙ ap (option_map token_of) (slice_get_past tokens index past) in
+    rw no none
 
 -- ---- the names of programme types
 
