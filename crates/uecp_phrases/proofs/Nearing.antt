@@ -17,6 +17,7 @@ use Rattle.uecp_phrases.specs.declared.head.Head.{Head}
 use Rattle.uecp_phrases.specs.declared.head.Head.TheVariants as head
 use Rattle.uecp_phrases.specs.Expecting.{MayStand, acts_somewhere}
 use Rattle.uecp_phrases.specs.Phrases.{head_word}
+use Rattle.uecp_phrases.proofs.Phrasing.{own_head}
 use Rattle.uecp_phrases.specs.declared.nearest.Near.{Near}
 use Rattle.uecp_phrases.specs.Nearest.{words_at, the_name, names_below, name_count, offered, OfferedMayStand, IsNear}
 use Rattle.uecp_phrases.specs.Nearest.{IsNearest, IsFound, IsFirstWord, Offers, OffersAt, letters_of, distance}
@@ -155,13 +156,13 @@ names_stand region (suc number) = all_join (Stands region what.ProgrammeType) (n
     (one_stands region number (name_of region number) refl)
 
 placed : (region : Region) (h : Head) → acts_somewhere h ≡ true → Stands region what.WordForService (head_word h)
-placed region h somewhere = inl (h, refl, somewhere)
+placed region h somewhere = inl (h, own_head h, somewhere)
 
 placed_in_set : (region : Region) (h : Head) → acts_somewhere h ≡ true → Stands region what.WordInSet (head_word h)
-placed_in_set region h somewhere = inl (inr (h, refl, somewhere))
+placed_in_set region h somewhere = inl (inr (h, own_head h, somewhere))
 
 first : (region : Region) (h : Head) → Stands region what.FirstWord (head_word h)
-first region h = inl (inr (inr (h, refl)))
+first region h = inl (inr (inr (h, own_head h)))
 
 choices : (region : Region) (add same times : Bool) → AllByRecursion (Stands region (what.Choice add same times))
     (offered region (what.Choice add same times))

@@ -12,7 +12,7 @@ use Rattle.uecp_phrases.specs.declared.expectation.Expectation.TheVariants as wh
 use Rattle.uecp_phrases.specs.declared.head.Head.{Head}
 use Rattle.uecp_phrases.specs.declared.nearest.Near.{Near}
 use Rattle.uecp_phrases.specs.Expecting.{MayStand}
-use Rattle.uecp_phrases.specs.Phrases.{head_word}
+use Rattle.uecp_phrases.specs.Phrases.{IsHead}
 
 -- ---- The words that may stand at a place.
 
@@ -96,9 +96,9 @@ IsNearest letters words (Some word) = (before : List (List ℕ)) × (behind : Li
     × AllByRecursion (λ other. IsNear letters other → distance letters word < distance letters other) before
     × AllByRecursion (λ other. IsNear letters other → distance letters word ≤ distance letters other) behind
 
--- The token is the first word of a phrase, spelled right.
+-- The token is the first word of a phrase, spelled right, whatever the case of its letters.
 abbrev pub IsFirstWord : Token → Type 0
-IsFirstWord t = (h : Head) × (t ≡ Word (head_word h))
+IsFirstWord t = (h : Head) × IsHead t h
 
 -- This is offered for a token that stands where this may: the nearest of the words that may stand there, if one is
 -- near; and nothing for the first word of a phrase, spelled right, which stands at the wrong place.

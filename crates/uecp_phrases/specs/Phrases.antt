@@ -1,7 +1,8 @@
 -- What a phrase means: the bytes that it adds to a message. A phrase says where it acts, begins with a word of its own,
 -- and goes on with numbers, names or a text (profile).
 use Rattle.std.specs.Prelude.{◌≡◌, ◌⊎◌, ℕ, ◌+◌, ◌-◌, ◌*◌, ◌≤◌, Bool, true, false, if◌then◌else◌, List, [], ◌∷◌, ◌++◌}
-use Rattle.std.specs.Prelude.{◌||◌, is_some, length, replicate, flat_map, codes, Option, Some, None}
+use Rattle.std.specs.Prelude.{◌||◌, is_some, length, map, replicate, flat_map, codes, Option, Some, None}
+use Rattle.std.specs.Char.{to_ascii_lowercase}
 use Rattle.uecp_elements.specs.Grammar.{Part, NoText, Text, Pi, Ps, TaTp, Ms, Pty, Rt, Select, Group, Ack}
 use Rattle.uecp_elements.specs.Grammar.{spelling}
 use Rattle.uecp_text.specs.Words.{IsByte, IsNumber, decimal_in}
@@ -58,6 +59,10 @@ head_word head.Set = codes "set"
 head_word head.Group = codes "group"
 head_word head.Ack = codes "ack"
 head_word head.Raw = codes "raw"
+
+-- The token is this word, whatever the case of its letters.
+abbrev pub IsHead : Token → Head → Type 0
+IsHead t h = (word : List ℕ) × (t ≡ Word word) × (map to_ascii_lowercase word ≡ head_word h)
 
 -- A byte whose bits have no name is told as it is.
 abbrev pub AreBits : List Token → ℕ → Type 0
@@ -242,11 +247,13 @@ Tells region head.Raw placed dsn psn tokens bytes = (placed ≡ false) × AreRaw
 pub record IsPhrase (region : Region) (tokens : List Token) (bytes : List ℕ) : Type 0 where
   pub set : Option (List ℕ)
   pub service : Option (List ℕ)
+  pub first : Token
   pub head : Head
   pub rest : List Token
   pub dsn : ℕ
   pub psn : ℕ
-  pub whole : tokens ≡ set_said set ++ (service_said service ++ (Word (head_word head) ∷ rest))
+  pub whole : tokens ≡ set_said set ++ (service_said service ++ (first ∷ rest))
+  pub named : IsHead first head
   pub in_set : IsInSet set dsn
   pub for_service : IsForService service psn
   pub told : Tells region head (is_some set || is_some service) dsn psn rest bytes

@@ -9,7 +9,13 @@ use uecp_phrases::{Expectation, Expected, expected_in};
 /// Lines that say nothing, the index at which something else was expected, what, and the nearest word.
 const WRONG: &[(&str, usize, &str, Option<&str>)] = &[
     (r#"pss "A""#, 0, "the first word of a phrase", Some("ps")),
-    (r#"PS "A""#, 0, "the first word of a phrase", Some("ps")),
+    (
+        r#"IN 2 PS "A""#,
+        0,
+        "the first word of a phrase",
+        Some("in"),
+    ),
+    (r#"PSS "A""#, 0, "the first word of a phrase", Some("ps")),
     (
         r#""Traffic" none"#,
         0,
@@ -36,6 +42,12 @@ const WRONG: &[(&str, usize, &str, Option<&str>)] = &[
     ),
     (
         "in 2 set 2",
+        2,
+        "for, pi, ps, rt, traffic, ta, tp, music, speech, ms or pty",
+        None,
+    ),
+    (
+        "in 2 SET 2",
         2,
         "for, pi, ps, rt, traffic, ta, tp, music, speech, ms or pty",
         None,
@@ -140,6 +152,7 @@ const OTHERS: &[(&str, usize, &str, Option<&str>)] = &[
     ),
     ("ms bist 03", 1, "bits", Some("bits")),
     ("ta", 1, "on or off", None),
+    ("TA ON", 1, "on or off", Some("on")),
     ("in 2 ta onn", 3, "on or off", Some("on")),
     ("for 0A tp of", 3, "on or off", Some("off")),
     ("ta announcement", 1, "on or off", None),
