@@ -1,14 +1,14 @@
 -- Phrases that say the same in other words.
-use Rattle.std.proofs.Common.{◌≡◌, ◌↔◌, ◌||◌, ℕ, Bool, true, false, is_some, List, [], ◌∷◌, ◌++◌, codes, Option, Some}
+use Rattle.std.proofs.Common.{◌≡◌, ◌||◌, ℕ, Bool, true, false, is_some, List, [], ◌∷◌, ◌++◌, codes, Option, Some}
 use Rattle.std.proofs.Common.{None, refl, sym, ◌∙◌, ap, subst, inl, inr}
 use Rattle.uecp_elements.specs.Grammar.{TaTp, spelling}
 use Rattle.rds_text.specs.declared.programme_type.Region.{Region}
 use Rattle.phrase_tokens.specs.Tokens.{Token, Word}
 use Rattle.uecp_phrases.specs.declared.head.Head.{Head}
 use Rattle.uecp_phrases.specs.declared.head.Head.TheVariants as head
-use Rattle.uecp_phrases.specs.Phrases.{head_word, IsHead, set_said, service_said, IsInSet, IsForService, IsTrafficWord}
+use Rattle.uecp_phrases.specs.Phrases.{head_word, IsHead, set_said, IsInSet, IsForService, IsTrafficWord}
 use Rattle.uecp_phrases.specs.Phrases.{switch_word, announcing, giving, Tells, IsPhrase}
-use Rattle.uecp_phrases.specs.Lines.{phrases_in, AddsBytes, AddEach, Say}
+use Rattle.uecp_phrases.specs.Lines.{AddsBytes, AddEach}
 use Rattle.uecp_phrases.specs.Laws.{AreAlike, said, AreTrafficSwitches, IsAnyCase}
 use Rattle.uecp_phrases.proofs.OneMeaning.{switch_one, traffic_one}
 use Rattle.uecp_phrases.proofs.Phrasing.{behind_set, no_set_behind, no_service_behind, one_head, own_head}

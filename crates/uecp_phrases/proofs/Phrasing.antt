@@ -1,5 +1,6 @@
 -- A phrase from its parts, and no phrase from none of them.
-use Rattle.std.proofs.Common.{◌≡◌, ℕ, ◌+◌, ◌||◌, Bool, true, false, not, is_some, List, [], ◌∷◌, ◌++◌, map, codes, Some, None}
+use Rattle.std.proofs.Common.{◌≡◌, ℕ, ◌+◌, ◌||◌, Bool, true, false, not, is_some, List, [], ◌∷◌, ◌++◌, map, codes, Some}
+use Rattle.std.proofs.Common.{None}
 use Rattle.std.proofs.Common.{Option}
 use Rattle.std.proofs.Common.{◌≤◌, ◌<◌, ◌≢◌, length, refl, sym, ◌∙◌, ap, subst, inl, inr, eqb, if◌then◌else◌, arith}
 use Rattle.std.proofs.lemmas.List.{length-map}

@@ -7,7 +7,7 @@ use Rattle.std.proofs.lemmas.List.{length-append, length-replicate}
 use Rattle.uecp_elements.specs.Grammar.{Part, NoText, Text, Element, Pi, Ps, TaTp, Ms, Pty, Rt, Select, Group, Ack}
 use Rattle.uecp_elements.specs.Grammar.{spelling, IsElement}
 use Rattle.rds_text.specs.declared.programme_type.Region.{Region}
-use Rattle.phrase_tokens.specs.Tokens.{Token, Word}
+use Rattle.phrase_tokens.specs.Tokens.{Token}
 use Rattle.uecp_phrases.specs.declared.head.Head.{Head}
 use Rattle.uecp_phrases.specs.declared.head.Head.TheVariants as head
 use Rattle.uecp_phrases.specs.Phrases.{Choice, Adds, Toggles, Stays, Times, Choices, choice_tokens, AreMade, no_choice}
