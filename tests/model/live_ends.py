@@ -20,7 +20,7 @@ MEMORY = "/dev/shm" if os.access("/dev/shm", os.W_OK) else None  # where files s
 SECONDS = 120  # of one wait, however busy the machine is
 NOTICE = re.compile(r"uecp: \d{4}-\d\d-\d\dT\d\d:\d\d:\d\d\.\d{3}Z (.*)\n")
 ENDS = (4000, 12000)  # bytes after which a connection over a bad line ends at the latest; a pass has 2600
-TRAFFIC = ("none", "eon", "programme", "announcement")
+TRAFFIC = ("traffic none", "traffic eon", "traffic programme", "traffic announcement", "TP off", "Traffic eon", "ta off", "TA on")  # each twice, 0 to 3
 MEANINGS = {0x03: "unknown element", 0x0B: "the buffer is full"}
 
 # who is started in the background of a shell, as a gate may be, is deaf to SIGINT, and so is what it starts in turn
@@ -51,7 +51,7 @@ def spoken(chance, count, first=0):
             ("rt clear", bytes([0x0A, 0, 0, 0])): 2,
             (f"group 0A 00 {spelt} add", bytes([0x24, 0, 0x40]) + blocks): 6,
             (f"group 0A 00 {spelt}", bytes([0x24, 0, 0x00]) + blocks): 1,
-            (f"traffic {TRAFFIC[number % 4]}", bytes([0x03, 0, 0, number % 4])): 2,
+            (TRAFFIC[number % 8], bytes([0x03, 0, 0, number % 4])): 2,
             ("raw 99", bytes([0x99])): 1,
         }
         line, message = chance.choices(list(kinds), kinds.values())[0]

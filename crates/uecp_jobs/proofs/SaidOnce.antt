@@ -1,8 +1,8 @@
 -- A line of a phrase script says one thing.
 use lib.Pointwise.{pointwise}
 use Rattle.std.proofs.Common.{◌≡◌, ℕ, ◌==◌, ◌/◌, ◌%◌, nat_le, Bool, true, false, not, ◌&&◌, List, [], ◌∷◌, ◌++◌, codes}
-use Rattle.std.proofs.Common.{chars, Option, Some, None, Ok, refl, sym, ap, ◌∙◌, subst, inl, inr, arith}
-use Rattle.std.proofs.lemmas.Bool.{false≢true}
+use Rattle.std.proofs.Common.{chars, map, Option, Some, None, Ok, refl, sym, ap, ◌∙◌, subst, inl, inr, arith}
+use Rattle.std.specs.Char.{to_ascii_lowercase}
 use Rattle.hex.specs.Hex.{decode_sized}
 use Rattle.uecp_frame.specs.Frame.{high_first}
 use Rattle.rds_text.specs.declared.programme_type.Region.{Region}
@@ -10,7 +10,7 @@ use Rattle.phrase_tokens.specs.Tokens.{Token, Word}
 use Rattle.phrase_tokens.proofs.Public.{one_reading}
 use Rattle.uecp_phrases.specs.declared.head.Head.{Head}
 use Rattle.uecp_phrases.specs.declared.head.Head.TheVariants as head
-use Rattle.uecp_phrases.specs.Phrases.{head_word, set_said, service_said, IsPhrase}
+use Rattle.uecp_phrases.specs.Phrases.{head_word, IsHead, set_said, service_said, IsPhrase}
 use Rattle.uecp_phrases.specs.Lines.{AddsBytes, AddEach, phrases_in, Say}
 use Rattle.uecp_phrases.proofs.Public.{adds_one}
 use Rattle.phrase_scripts.specs.Lines.{Line, Begins, Says, AreFrame, Tell, SaysLine}
@@ -30,41 +30,38 @@ pub record Opens (tokens : List Token) : Type 0 where
   pub is : tokens ≡ Word word ∷ rest
   pub opening : is_opening word ≡ true
 
-head_opens : (h : Head) → is_opening (head_word h) ≡ true
-head_opens head.Pi = refl
-head_opens head.Ps = refl
-head_opens head.Rt = refl
-head_opens head.Traffic = refl
-head_opens head.Music = refl
-head_opens head.Speech = refl
-head_opens head.Ms = refl
-head_opens head.Pty = refl
-head_opens head.Set = refl
-head_opens head.Group = refl
-head_opens head.Ack = refl
-head_opens head.Raw = refl
+-- ---- No phrase begins with the first word of a frame's line.
 
-pub phrase_opens : (region : Region) (tokens : List Token) (bytes : List ℕ) → IsPhrase region tokens bytes
-    → Opens tokens
-phrase_opens region tokens bytes p = by p.set p.service p.whole
+no_head : (h : Head) → codes "frame" ≡ head_word h → ⊥
+no_head head.Pi e = cc e
+no_head head.Ps e = cc e
+no_head head.Rt e = cc e
+no_head head.Traffic e = cc e
+no_head head.Ta e = cc e
+no_head head.Tp e = cc e
+no_head head.Music e = cc e
+no_head head.Speech e = cc e
+no_head head.Ms e = cc e
+no_head head.Pty e = cc e
+no_head head.Set e = cc e
+no_head head.Group e = cc e
+no_head head.Ack e = cc e
+no_head head.Raw e = cc e
+
+no_frame_head : (t : Token) (h : Head) → t ≡ Word (codes "frame") → IsHead t h → ⊥
+no_frame_head t h is (w, own, named) =
+    let e : Word w ≡ Word (codes "frame") = sym own ∙ is in
+    let word : codes "frame" ≡ w = cc in no_head h (ap (λ l. map to_ascii_lowercase l) word ∙ named)
+
+no_frame_phrase : (region : Region) (others : List Token) (bytes : List ℕ)
+    → IsPhrase region (Word (codes "frame") ∷ others) bytes → ⊥
+no_frame_phrase region others bytes p = by p.set p.service p.whole
   where
     by : (set service : Option (List ℕ))
-        → tokens ≡ set_said set ++ (service_said service ++ (Word (head_word p.head) ∷ p.rest)) → Opens tokens
-    by None None e = record { word = head_word p.head; rest = p.rest; is = e; opening = head_opens p.head }
-    by None (Some w) e =
-        record { word = codes "for"; rest = Word w ∷ Word (head_word p.head) ∷ p.rest; is = e; opening = refl }
-    by (Some v) service e = record {
-      word = codes "in";
-      rest = Word v ∷ (service_said service ++ (Word (head_word p.head) ∷ p.rest));
-      is = e;
-      opening = refl;
-    }
-
-no_frame_opens : (tokens others : List Token) → Opens tokens → tokens ≡ Word (codes "frame") ∷ others → ⊥
-no_frame_opens tokens others o e =
-    let same : Word o.word ∷ o.rest ≡ Word (codes "frame") ∷ others = sym o.is ∙ e in
-    let word : codes "frame" ≡ o.word = cc in
-    false≢true (ap is_opening word ∙ o.opening)
+        → Word (codes "frame") ∷ others ≡ set_said set ++ (service_said service ++ (p.first ∷ p.rest)) → ⊥
+    by None None e = let is : p.first ≡ Word (codes "frame") = cc in no_frame_head p.first p.head is p.named
+    by None (Some w) e = cc e
+    by (Some v) service e = cc e
 
 -- ---- A message, or a frame's line.
 
@@ -79,9 +76,7 @@ one_message region (t ∷ ts) a b (x, y, is, adds, more) (x', y', is', adds', mo
 adds_none : (region : Region) (others : List Token) (bytes : List ℕ)
     → AddsBytes region (Word (codes "frame") ∷ others) bytes → ⊥
 adds_none region others bytes (inl (none, is)) = cc none
-adds_none region others bytes (inr p) =
-    no_frame_opens (Word (codes "frame") ∷ others) others
-    (phrase_opens region (Word (codes "frame") ∷ others) bytes p) refl
+adds_none region others bytes (inr p) = no_frame_phrase region others bytes p
 
 no_frame_says : (region : Region) (tokens : List Token) (address counter : ℕ) (message : List ℕ)
     → AreFrame tokens address counter → Say region tokens message → ⊥

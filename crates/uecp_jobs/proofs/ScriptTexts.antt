@@ -15,7 +15,8 @@ use Rattle.uecp_frame.specs.declared.frame.Frame.{Frame}
 use Rattle.uecp_frame.specs.Fault.{number_of, name_of}
 use Rattle.uecp_frame.specs.Frame.{high_first}
 use Rattle.uecp_elements.specs.declared.fault.ElementFault.{ElementFault}
-use Rattle.uecp_elements.specs.Grammar.{Element, Pi, IsElement, AreBytes, EndsWith, spelling}
+use Rattle.uecp_elements.specs.Grammar.{Element, Pi, Ps, TaTp, Ms, Pty, Rt, Select, Group, Ack, IsElement, AreBytes}
+use Rattle.uecp_elements.specs.Grammar.{EndsWith, spelling}
 use Rattle.uecp_elements.specs.Reading.{Item, fault_item}
 use Rattle.uecp_elements.proofs.Public.{has_reading}
 use Rattle.rds_text.specs.declared.programme_type.Region.{Region}
@@ -24,13 +25,15 @@ use Rattle.uecp_text.specs.Digits.{byte_word, number_word, decimal_word}
 use Rattle.uecp_text.specs.Input.{lines_of, numbered}
 use Rattle.uecp_lines.specs.Lines.{place_words}
 use Rattle.uecp_words.proofs.Public.{number_spelled, byte_spelled}
-use Rattle.phrase_tokens.specs.Tokens.{Token, Word, Lays, IsToken, is_word_character, written_behind, written_tokens}
+use Rattle.phrase_tokens.specs.Tokens.{Token, Word, Quoted, Lays, IsToken, is_word_character, written_behind}
+use Rattle.phrase_tokens.specs.Tokens.{written_tokens}
 use Rattle.phrase_tokens.proofs.Public.{OfWord, of_word, both, read_back, through_utf8}
 use Rattle.uecp_phrases.specs.Written.{number_token, byte_token, phrase_of, phrase_of_item, joined_behind, joined}
-use Rattle.uecp_phrases.specs.Written.{line_of}
-use Rattle.uecp_phrases.proofs.Public.{line_writable, said_as_written, bytes_left, is_one, byte_is, writable}
+use Rattle.uecp_phrases.specs.Written.{line_of, place_tokens, set_token, bits_tokens, trimmed as trimmed_name}
+use Rattle.uecp_phrases.specs.Written.{traffic_tokens, music_tokens, programme_type_tokens, text_tokens, group_tokens}
+use Rattle.uecp_phrases.proofs.Public.{line_writable, is_one, byte_is, writable}
 use Rattle.phrase_scripts.specs.Lines.{Begins, SaysLine, message_text, message_line, heading_line, finding_lines}
-use Rattle.uecp_jobs.proofs.SaidOnce.{Opens, phrase_opens}
+use Rattle.uecp_jobs.proofs.SaidOnce.{Opens, is_opening}
 use Rattle.uecp_jobs.proofs.WrittenTokens.{AreShown, shown_then}
 use Rattle.uecp_jobs.proofs.WrittenLines.{letter_begins, tokens_begin, tokens_line, comment_line}
 
@@ -122,6 +125,48 @@ heading_says region address counter high low =
 
 -- ---- The line of a message.
 
+place_opens : (dsn psn : ℕ) (word : List ℕ) (rest : List Token) → is_opening word ≡ true
+    → Opens (place_tokens dsn psn ++ (Word word ∷ rest))
+place_opens dsn psn word rest opening = by (dsn == 0x00) (psn == 0x00)
+  where
+    by : (current main : Bool)
+        → Opens (((if current then [] else Word (codes "in") ∷ set_token dsn ∷ [])
+        ++ (if main then [] else Word (codes "for") ∷ byte_token psn ∷ [])) ++ (Word word ∷ rest))
+    by true true = record { word = word; rest = rest; is = refl; opening = opening }
+    by true false =
+        record { word = codes "for"; rest = byte_token psn ∷ Word word ∷ rest; is = refl; opening = refl }
+    by false main = record {
+      word = codes "in";
+      rest = set_token dsn
+          ∷ ((if main then [] else Word (codes "for") ∷ byte_token psn ∷ []) ++ (Word word ∷ rest));
+      is = refl;
+      opening = refl;
+    }
+
+music_opens : (dsn psn raw : ℕ) → Opens (place_tokens dsn psn ++ music_tokens raw)
+music_opens dsn psn raw = by (raw == 1) (raw == 0)
+  where
+    by : (music speech : Bool)
+        → Opens (place_tokens dsn psn ++ (if music then Word (codes "music") ∷ []
+        else if speech then Word (codes "speech") ∷ [] else Word (codes "ms") ∷ bits_tokens raw))
+    by true speech = place_opens dsn psn (codes "music") [] refl
+    by false true = place_opens dsn psn (codes "speech") [] refl
+    by false false = place_opens dsn psn (codes "ms") (bits_tokens raw) refl
+
+element_opens : (region : Region) (e : Element) → Opens (phrase_of region e)
+element_opens region (Pi dsn psn pi) = place_opens dsn psn (codes "pi") (number_token pi ∷ []) refl
+element_opens region (Ps dsn psn name) = place_opens dsn psn (codes "ps") (Quoted (trimmed_name name) ∷ []) refl
+element_opens region (TaTp dsn psn raw) = place_opens dsn psn (codes "traffic") (traffic_tokens raw) refl
+element_opens region (Ms dsn psn raw) = music_opens dsn psn raw
+element_opens region (Pty dsn psn raw) = place_opens dsn psn (codes "pty") (programme_type_tokens region raw) refl
+element_opens region (Rt dsn psn part) = place_opens dsn psn (codes "rt") (text_tokens part) refl
+element_opens region (Select dsn) =
+    record { word = codes "set"; rest = set_token dsn ∷ []; is = refl; opening = refl }
+element_opens region (Group kind mode block3 block4) =
+    record { word = codes "group"; rest = group_tokens kind mode block3 block4; is = refl; opening = refl }
+element_opens region (Ack code counter) =
+    record { word = codes "ack"; rest = byte_token code ∷ byte_token counter ∷ []; is = refl; opening = refl }
+
 first_opens : (region : Region) (message : List ℕ) (item : Item) (others : List Item)
     → Opens (phrase_of_item region message item)
     → Opens (joined (map (phrase_of_item region message) (item ∷ others)))
@@ -139,10 +184,8 @@ reading_opens region message rest [] (Some fault) each bytes end some =
     first_opens region message (Err fault) []
     (record { word = codes "raw"; rest = map byte_token (drop fault.place message); is = refl; opening = refl })
 reading_opens region message rest (e ∷ es) fault each bytes end some =
-    let all = subst AreBytes (append_assoc (spelling e) (flat_map spelling es) rest) bytes in
     first_opens region message (Ok e) (map Ok es ++ fault_item fault)
-    (phrase_opens region (phrase_of region e) (spelling e)
-    (said_as_written region e each.0 (bytes_left (spelling e) (flat_map spelling es ++ rest) all)))
+    (element_opens region e)
 
 message_opens : (region : Region) (message : List ℕ) → AreBytes message → 1 ≤ length message
     → Opens (line_of region message)

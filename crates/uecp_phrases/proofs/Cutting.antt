@@ -10,7 +10,7 @@ use Rattle.rds_text.specs.declared.programme_type.Region.{Region}
 use Rattle.phrase_tokens.specs.declared.token.Token.{Token as Held}
 use Rattle.phrase_tokens.specs.Tokens.{Token, Word, Quoted, Semicolon}
 use Rattle.phrase_tokens.specs.View.{token_of, tokens_of}
-use Rattle.uecp_phrases.specs.Phrases.{IsPhrase, set_said, service_said, head_word}
+use Rattle.uecp_phrases.specs.Phrases.{IsPhrase, set_said, service_said}
 use Rattle.uecp_phrases.specs.Lines.{ends_phrase, phrases_in, AddsBytes, AddEach}
 use Rattle.uecp_phrases.proofs.OneMeaning.{one_meaning}
 
@@ -92,7 +92,7 @@ pub empty_no_phrase : (region : Region) (bytes : List ℕ) → IsPhrase region [
 empty_no_phrase region bytes p = by_place p.set p.service p.whole
   where
     by_place : (set service : Option (List ℕ))
-        → [] ≡ set_said set ++ (service_said service ++ (Word (head_word p.head) ∷ p.rest)) → ⊥
+        → [] ≡ set_said set ++ (service_said service ++ (p.first ∷ p.rest)) → ⊥
     by_place None None e = cc e
     by_place None (Some w) e = cc e
     by_place (Some v) service e = cc e

@@ -1,5 +1,6 @@
 -- What may stand first behind a phrase's first word.
-use Rattle.std.proofs.Common.{◌≡◌, ℕ, List, [], ◌∷◌, ◌++◌, codes, replicate, refl, sym, ◌∙◌, ap, inl, inr, arith}
+use Rattle.std.proofs.Common.{◌≡◌, ℕ, true, false, List, [], ◌∷◌, ◌++◌, codes, replicate, refl, sym, ◌∙◌, ap, inl}
+use Rattle.std.proofs.Common.{inr, arith}
 use Rattle.std.proofs.Common.{Result, IfErr}
 use Rattle.uecp_elements.specs.Grammar.{NoText, Text, Pi, Ps, TaTp, Ms, Pty, Rt, Select, Group, Ack, spelling}
 use Rattle.rds_text.specs.declared.programme_type.Region.{Region}
@@ -8,7 +9,7 @@ use Rattle.uecp_phrases.specs.declared.head.Head.{Head}
 use Rattle.uecp_phrases.specs.declared.head.Head.TheVariants as head
 use Rattle.uecp_phrases.specs.declared.expectation.Expectation.{Expectation}
 use Rattle.uecp_phrases.specs.declared.expectation.Expectation.TheVariants as what
-use Rattle.uecp_phrases.specs.Phrases.{no_choice, IsTrafficWord, IsGroupType}
+use Rattle.uecp_phrases.specs.Phrases.{no_choice, IsTrafficWord, IsGroupType, announcing, giving}
 use Rattle.uecp_phrases.specs.Reading.{IsNamed, IsTypeNamed}
 use Rattle.uecp_phrases.specs.Expecting.{MayStand, MayEnd, IsNext, IsStop}
 use Rattle.uecp_phrases.specs.Stops.{Told, IsUntold, IsStuck, Each, IsEnd, IsAddOrEnd}
@@ -37,6 +38,10 @@ some_told region head.Ps = (
 some_told region head.Rt = (Word (codes "clear") ∷ [], (spelling (Rt 0 0 NoText), (NoText, refl, refl)))
 some_told region head.Traffic =
     (Word (codes "none") ∷ [], (spelling (TaTp 0 0 0), (0, inl (codes "none", refl, inl (refl, refl)), refl)))
+some_told region head.Ta =
+    (Word (codes "on") ∷ [], (spelling (TaTp 0 0 (announcing true)), (true, refl, refl)))
+some_told region head.Tp =
+    (Word (codes "on") ∷ [], (spelling (TaTp 0 0 (giving true)), (true, refl, refl)))
 some_told region head.Music = ([], (spelling (Ms 0 0 1), (refl, refl)))
 some_told region head.Speech = ([], (spelling (Ms 0 0 0), (refl, refl)))
 some_told region head.Ms = (
@@ -205,6 +210,10 @@ none_told region head.Rt wants (_, (Text _ _, inl (_, _, e, _, _), _)) = cc e
 none_told region head.Rt wants (_, (Text _ _, inr (_, e, _), _)) = cc e
 none_told region head.Traffic wants (_, (_, inl (_, e, _), _)) = cc e
 none_told region head.Traffic wants (_, (_, inr (_, e, _), _)) = cc e
+none_told region head.Ta wants (_, (true, e, _)) = cc e
+none_told region head.Ta wants (_, (false, e, _)) = cc e
+none_told region head.Tp wants (_, (true, e, _)) = cc e
+none_told region head.Tp wants (_, (false, e, _)) = cc e
 none_told region head.Music wants told = absurd wants
 none_told region head.Speech wants told = absurd wants
 none_told region head.Ms wants (_, (_, (_, e, _), _)) = cc e

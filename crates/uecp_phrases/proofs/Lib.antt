@@ -15,6 +15,7 @@ pub mod LineTokens
 pub mod WritingLines
 pub mod Turning
 pub mod Stopping
+pub mod Switching
 pub mod Slots
 pub mod Behind
 pub mod FirstWanted
@@ -23,4 +24,5 @@ pub mod Placing
 pub mod Faulting
 pub mod Nearing
 pub mod LineStops
+pub mod Alike
 pub mod Public

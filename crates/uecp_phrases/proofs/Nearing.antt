@@ -2,21 +2,25 @@
 use Rattle.std.proofs.Common.{◌≡◌, ◌⊎◌, ℕ, zero, suc, ◌+◌, ◌≤◌, ◌<◌, Bool, true, false, List, [], ◌∷◌, ◌++◌, Option}
 use Rattle.std.proofs.Common.{Some}
 use Rattle.std.proofs.Common.{None, refl, ◌∙◌, ap, sym, subst, arith, inl, inr, codes, append_assoc}
-use Rattle.std.proofs.Common.{length, map, take, get_or}
+use Rattle.std.proofs.Common.{length, map, take, get_or, slice_get}
 use Rattle.std.specs.Option.{option_map}
+use Rattle.std.proofs.lemmas.Option.{slice_get-map, slice_get_read, slice_get_past}
 use Rattle.std.specs.List.{AllByRecursion}
 use Rattle.rds_text.specs.declared.programme_type.Region.{Region}
 use Rattle.rds_text.specs.ProgrammeTypes.{name_of}
 use Rattle.phrase_tokens.specs.Tokens.{Token, Word, Quoted}
+use Rattle.phrase_tokens.specs.declared.token.Token.{Token as Held}
+use Rattle.phrase_tokens.specs.View.{token_of, tokens_of}
 use Rattle.uecp_phrases.specs.declared.expectation.Expectation.{Expectation}
 use Rattle.uecp_phrases.specs.declared.expectation.Expectation.TheVariants as what
 use Rattle.uecp_phrases.specs.declared.head.Head.{Head}
 use Rattle.uecp_phrases.specs.declared.head.Head.TheVariants as head
 use Rattle.uecp_phrases.specs.Expecting.{MayStand, acts_somewhere}
 use Rattle.uecp_phrases.specs.Phrases.{head_word}
+use Rattle.uecp_phrases.proofs.Phrasing.{own_head}
 use Rattle.uecp_phrases.specs.declared.nearest.Near.{Near}
 use Rattle.uecp_phrases.specs.Nearest.{words_at, the_name, names_below, name_count, offered, OfferedMayStand, IsNear}
-use Rattle.uecp_phrases.specs.Nearest.{IsNearest, IsFound, IsFirstWord, Offers, letters_of, distance}
+use Rattle.uecp_phrases.specs.Nearest.{IsNearest, IsFound, IsFirstWord, Offers, OffersAt, letters_of, distance}
 
 all_more : {A : Type 0} (P : A → Type 0) (xs : List A) (y : A) → AllByRecursion P xs → P y
     → AllByRecursion P (xs ++ y ∷ [])
@@ -108,6 +112,23 @@ offers_found region expected t letters words count before found letters_are word
           (subst (λ ws. IsNearest letters (ws ++ names_below region count) near) words_are all.0)),
     )
 
+-- what is offered for the token of an index
+pub offers_at : (region : Region) (expected : Expectation) (tokens : List Held) (index : ℕ) (t : Held)
+    (near : Option (List ℕ)) → index < length tokens → t ≡ get_or tokens index t
+    → Offers region expected (token_of t) near → OffersAt region expected (tokens_of tokens) index near
+offers_at region expected tokens index t near within is offers =
+    let one : slice_get (tokens_of tokens) index ≡ Some (token_of t) = slice_get-map token_of tokens index
+    ∙ ap (option_map token_of) (slice_get_read tokens (length tokens) index t refl within is) in
+    rw one offers
+
+-- nothing is behind the last
+pub offers_none : (region : Region) (expected : Expectation) (tokens : List Held) (index : ℕ) (near : Option (List ℕ))
+    → length tokens ≤ index → near ≡ None → OffersAt region expected (tokens_of tokens) index near
+offers_none region expected tokens index near past none =
+    let no : slice_get (tokens_of tokens) index ≡ None =
+    slice_get-map token_of tokens index ∙ ap (option_map token_of) (slice_get_past tokens index past) in
+    rw no none
+
 -- ---- the names of programme types
 
 pub one_name_more : (region : Region) (number : ℕ) (words : List (List ℕ))
@@ -135,13 +156,13 @@ names_stand region (suc number) = all_join (Stands region what.ProgrammeType) (n
     (one_stands region number (name_of region number) refl)
 
 placed : (region : Region) (h : Head) → acts_somewhere h ≡ true → Stands region what.WordForService (head_word h)
-placed region h somewhere = inl (h, refl, somewhere)
+placed region h somewhere = inl (h, own_head h, somewhere)
 
 placed_in_set : (region : Region) (h : Head) → acts_somewhere h ≡ true → Stands region what.WordInSet (head_word h)
-placed_in_set region h somewhere = inl (inr (h, refl, somewhere))
+placed_in_set region h somewhere = inl (inr (h, own_head h, somewhere))
 
 first : (region : Region) (h : Head) → Stands region what.FirstWord (head_word h)
-first region h = inl (inr (inr (h, refl)))
+first region h = inl (inr (inr (h, own_head h)))
 
 choices : (region : Region) (add same times : Bool) → AllByRecursion (Stands region (what.Choice add same times))
     (offered region (what.Choice add same times))
@@ -172,16 +193,25 @@ offered_may_stand region what.FirstWord = (
           (
             first region head.Traffic,
             (
-              first region head.Music,
+              first region head.Ta,
               (
-                first region head.Speech,
+                first region head.Tp,
                 (
-                  first region head.Ms,
+                  first region head.Music,
                   (
-                    first region head.Pty,
+                    first region head.Speech,
                     (
-                      first region head.Set,
-                      (first region head.Group, (first region head.Ack, (first region head.Raw, (tt)))),
+                      first region head.Ms,
+                      (
+                        first region head.Pty,
+                        (
+                          first region head.Set,
+                          (
+                            first region head.Group,
+                            (first region head.Ack, (first region head.Raw, (tt))),
+                          ),
+                        ),
+                      ),
                     ),
                   ),
                 ),
@@ -204,12 +234,18 @@ offered_may_stand region what.WordInSet = (
         (
           placed_in_set region head.Traffic refl,
           (
-            placed_in_set region head.Music refl,
+            placed_in_set region head.Ta refl,
             (
-              placed_in_set region head.Speech refl,
+              placed_in_set region head.Tp refl,
               (
-                placed_in_set region head.Ms refl,
-                (placed_in_set region head.Pty refl, (tt)),
+                placed_in_set region head.Music refl,
+                (
+                  placed_in_set region head.Speech refl,
+                  (
+                    placed_in_set region head.Ms refl,
+                    (placed_in_set region head.Pty refl, (tt)),
+                  ),
+                ),
               ),
             ),
           ),
@@ -227,10 +263,16 @@ offered_may_stand region what.WordForService = (
       (
         placed region head.Traffic refl,
         (
-          placed region head.Music refl,
+          placed region head.Ta refl,
           (
-            placed region head.Speech refl,
-            (placed region head.Ms refl, (placed region head.Pty refl, (tt))),
+            placed region head.Tp refl,
+            (
+              placed region head.Music refl,
+              (
+                placed region head.Speech refl,
+                (placed region head.Ms refl, (placed region head.Pty refl, (tt))),
+              ),
+            ),
           ),
         ),
       ),
@@ -257,6 +299,7 @@ offered_may_stand region what.Traffic = (
     ),
   ),
 )
+offered_may_stand region what.Switch = (inl (false, refl), (inl (true, refl), tt))
 offered_may_stand region what.ProgrammeType = all_join (Stands region what.ProgrammeType)
     (words_at what.ProgrammeType) (names_below region 32) (inl (inr (inr refl)), tt) (names_stand region 32)
 offered_may_stand region (what.Choice add same times) = choices region add same times

@@ -5,7 +5,7 @@ use Rattle.std.proofs.Common.{codes, flat_map, Some, None, Option, Ok, refl, sym
 use Rattle.std.proofs.Common.{if◌then◌else◌}
 use Rattle.hex.specs.Hex.{decode_sized}
 use Rattle.uecp_frame.specs.Frame.{high_first}
-use Rattle.uecp_elements.specs.Grammar.{Part, NoText, Text, Rt, spelling}
+use Rattle.uecp_elements.specs.Grammar.{Part, NoText, Text, TaTp, Rt, spelling}
 use Rattle.uecp_text.specs.Words.{IsByte, IsNumber, decimal_in}
 use Rattle.rds_text.specs.declared.programme_type.Region.{Region}
 use Rattle.rds_text.specs.ProgrammeTypes.{HasName}
@@ -14,10 +14,10 @@ use Rattle.phrase_tokens.specs.Tokens.{Token, Word, Quoted}
 use Rattle.uecp_phrases.specs.declared.head.Head.{Head}
 use Rattle.uecp_phrases.specs.declared.head.Head.TheVariants as head
 use Rattle.uecp_phrases.specs.Phrases.{AreBits, IsPi, IsName, IsTrafficWord, IsTraffic, IsProgrammeType, Choice, Adds}
-use Rattle.uecp_phrases.specs.Phrases.{Toggles, Stays, Times}
+use Rattle.uecp_phrases.specs.Phrases.{Toggles, Stays, Times, IsSwitch, announcing, giving}
 use Rattle.uecp_phrases.specs.Phrases.{Choices}
 use Rattle.uecp_phrases.specs.Phrases.{choice_tokens, AreMade, no_choice, head_of, IsRadioText, IsGroupType}
-use Rattle.uecp_phrases.specs.Phrases.{added_tokens, IsGroup, IsAck, AreRaw, IsSelected, Tells, head_word, IsPhrase}
+use Rattle.uecp_phrases.specs.Phrases.{added_tokens, IsGroup, IsAck, AreRaw, IsSelected, Tells, IsHead, IsPhrase}
 use Rattle.uecp_phrases.specs.Phrases.{set_said, IsInSet, IsForService, IsSet}
 use Rattle.uecp_phrases.specs.Reading.{IsBefore, or_zero}
 use Rattle.uecp_phrases.proofs.RawWords.{same_byte}
@@ -47,6 +47,14 @@ bits_one tokens a b (v, p, x) (w, q, y) =
 bits_no_word : (tokens : List Token) (a : ℕ) (t : Token) → AreBits tokens a → tokens ≡ t ∷ [] → ⊥
 bits_no_word tokens a t (v, p, x) q =
     let e : Word (codes "bits") ∷ Word v ∷ [] ≡ t ∷ [] = sym p ∙ q in cc e
+
+pub switch_one : (tokens : List Token) (a b : Bool) → IsSwitch tokens a → IsSwitch tokens b → a ≡ b
+switch_one tokens true true p q = refl
+switch_one tokens false false p q = refl
+switch_one tokens true false p q =
+    let e : Word (codes "on") ∷ [] ≡ Word (codes "off") ∷ [] = sym p ∙ q in absurd (cc e)
+switch_one tokens false true p q =
+    let e : Word (codes "off") ∷ [] ≡ Word (codes "on") ∷ [] = sym p ∙ q in absurd (cc e)
 
 pi_one : (tokens : List Token) (a b : ℕ) → IsPi tokens a → IsPi tokens b → high_first a ≡ high_first b
 pi_one tokens a b (v, p, x) (w, q, y) =
@@ -89,7 +97,7 @@ traffic_word_one v w a b s (inr (inr (inr (p, x)))) (inr (inr (inl (q, y)))) =
     let e : codes "announcement" ≡ codes "programme" = sym p ∙ s ∙ q in absurd (cc e)
 traffic_word_one v w a b s (inr (inr (inr (p, x)))) (inr (inr (inr (q, y)))) = x ∙ sym y
 
-traffic_one : (tokens : List Token) (a b : ℕ) → IsTraffic tokens a → IsTraffic tokens b → a ≡ b
+pub traffic_one : (tokens : List Token) (a b : ℕ) → IsTraffic tokens a → IsTraffic tokens b → a ≡ b
 traffic_one tokens a b (inl (v, p, x)) (inl (w, q, y)) =
     let e : Word v ∷ [] ≡ Word w ∷ [] = sym p ∙ q in
     let same : v ≡ w = cc in traffic_word_one v w a b same x y
@@ -286,6 +294,10 @@ told_one region head.Ps placed dsn psn tokens a b (m, p, x) (n, q, y) =
 told_one region head.Rt placed dsn psn tokens a b (m, p, x) (n, q, y) = x ∙ text_one tokens dsn psn m n p q ∙ sym y
 told_one region head.Traffic placed dsn psn tokens a b (m, p, x) (n, q, y) =
     x ∙ ap (λ r. 0x03 ∷ dsn ∷ psn ∷ r ∷ []) (traffic_one tokens m n p q) ∙ sym y
+told_one region head.Ta placed dsn psn tokens a b (on, p, x) (off, q, y) =
+    x ∙ ap (λ r. spelling (TaTp dsn psn (announcing r))) (switch_one tokens on off p q) ∙ sym y
+told_one region head.Tp placed dsn psn tokens a b (on, p, x) (off, q, y) =
+    x ∙ ap (λ r. spelling (TaTp dsn psn (giving r))) (switch_one tokens on off p q) ∙ sym y
 told_one region head.Music placed dsn psn tokens a b (_, x) (_, y) = x ∙ sym y
 told_one region head.Speech placed dsn psn tokens a b (_, x) (_, y) = x ∙ sym y
 told_one region head.Ms placed dsn psn tokens a b (m, p, x) (n, q, y) =
@@ -305,17 +317,18 @@ abbrev pub number_said : Option (List ℕ) → ℕ → Option ℕ
 number_said None n = None
 number_said (Some w) n = Some n
 
-pub set_front : (tokens : List Token) (word service : Option (List ℕ)) (dsn : ℕ) (h : Head) (rest : List Token)
-    → tokens ≡ set_said word ++ behind_set service h rest → IsInSet word dsn
-    → IsBefore (codes "in") IsSet tokens (number_said word dsn) (behind_set service h rest)
-set_front tokens None service dsn h rest whole zero =
-    (sym whole, λ begins. no_set_behind service h rest (begins.0, sym whole ∙ begins.1))
-set_front tokens (Some w) service dsn h rest whole named = (w, whole, named)
+pub set_front : (tokens : List Token) (word service : Option (List ℕ)) (dsn : ℕ) (t : Token) (h : Head)
+    (rest : List Token) → IsHead t h → tokens ≡ set_said word ++ behind_set service t rest → IsInSet word dsn
+    → IsBefore (codes "in") IsSet tokens (number_said word dsn) (behind_set service t rest)
+set_front tokens None service dsn t h rest own whole zero =
+    (sym whole, λ begins. no_set_behind service t h rest own (begins.0, sym whole ∙ begins.1))
+set_front tokens (Some w) service dsn t h rest own whole named = (w, whole, named)
 
-pub service_front : (word : Option (List ℕ)) (psn : ℕ) (h : Head) (rest : List Token) → IsForService word psn
-    → IsBefore (codes "for") IsByte (behind_set word h rest) (number_said word psn) (Word (head_word h) ∷ rest)
-service_front None psn h rest zero = (refl, λ begins. no_service_behind h rest begins)
-service_front (Some w) psn h rest named = (w, refl, named)
+pub service_front : (word : Option (List ℕ)) (psn : ℕ) (t : Token) (h : Head) (rest : List Token) → IsHead t h
+    → IsForService word psn
+    → IsBefore (codes "for") IsByte (behind_set word t rest) (number_said word psn) (t ∷ rest)
+service_front None psn t h rest own zero = (refl, λ begins. no_service_behind t h rest own begins)
+service_front (Some w) psn t h rest own named = (w, refl, named)
 
 said_same : (word : Option (List ℕ)) (n : ℕ) → is_some (number_said word n) ≡ is_some word
 said_same None n = refl
@@ -332,15 +345,16 @@ service_same (Some w) n named = refl
 pub one_meaning : (region : Region) (tokens : List Token) (a b : List ℕ) → IsPhrase region tokens a
     → IsPhrase region tokens b → a ≡ b
 one_meaning region tokens a b p q =
-    let set = set_read tokens (behind_set p.service p.head p.rest) (number_said p.set p.dsn) q.set q.service q.dsn
-    q.head
-    q.rest (set_front tokens p.set p.service p.dsn p.head p.rest p.whole p.in_set) q.whole q.in_set in
-    let service = service_read (behind_set p.service p.head p.rest) (Word (head_word p.head) ∷ p.rest)
-    (number_said p.service p.psn) q.service q.psn q.head q.rest
-    (service_front p.service p.psn p.head p.rest p.for_service) set.left_is q.for_service in
-    let e : Word (head_word p.head) ∷ p.rest ≡ Word (head_word q.head) ∷ q.rest = service.left_is in
-    let words : head_word q.head ≡ head_word p.head = cc in
-    let heads : q.head ≡ p.head = one_head q.head p.head words in
+    let set = set_read tokens (behind_set p.service p.first p.rest) (number_said p.set p.dsn) q.set q.service q.dsn
+    q.first q.head q.rest q.named
+    (set_front tokens p.set p.service p.dsn p.first p.head p.rest p.named p.whole p.in_set) q.whole q.in_set in
+    let service = service_read (behind_set p.service p.first p.rest) (p.first ∷ p.rest)
+    (number_said p.service p.psn) q.service q.psn q.first q.head q.rest q.named
+    (service_front p.service p.psn p.first p.head p.rest p.named p.for_service) set.left_is q.for_service in
+    let e : p.first ∷ p.rest ≡ q.first ∷ q.rest = service.left_is in
+    let firsts : q.first ≡ p.first = cc in
+    let heads : q.head ≡ p.head = one_head p.first q.head p.head (subst (λ t. IsHead t q.head) firsts q.named)
+    p.named in
     let rests : q.rest ≡ p.rest = cc in
     let dsn : q.dsn ≡ p.dsn = set.number ∙ set_same p.set p.dsn p.in_set in
     let psn : q.psn ≡ p.psn = service.number ∙ service_same p.service p.psn p.for_service in

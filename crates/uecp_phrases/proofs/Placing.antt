@@ -11,10 +11,11 @@ use Rattle.uecp_phrases.specs.declared.head.Head.TheVariants as head
 use Rattle.uecp_phrases.specs.declared.expectation.Expectation.{Expectation}
 use Rattle.uecp_phrases.specs.declared.expectation.Expectation.TheVariants as what
 use Rattle.uecp_phrases.specs.Phrases.{IsSet, set_said, service_said, IsInSet, IsForService, head_word, Tells, IsPhrase}
+use Rattle.uecp_phrases.specs.Phrases.{IsHead, announcing, giving}
 use Rattle.uecp_phrases.specs.Reading.{IsBefore, BeginWith, or_zero}
 use Rattle.uecp_phrases.specs.Expecting.{acts_somewhere, MayStand, IsNext, IsStop, IsRead, IsLong, IsUnread}
 use Rattle.uecp_phrases.specs.Stops.{Told, IsNotFirst, IsStopBefore, IsNoHead, word_wanted}
-use Rattle.uecp_phrases.proofs.Phrasing.{behind_set, no_set_behind, no_in, no_for, one_head, phrase_read}
+use Rattle.uecp_phrases.proofs.Phrasing.{behind_set, no_set_behind, no_in, no_for, one_head, own_head, phrase_read}
 use Rattle.std.proofs.Common.{◌<◌, arith}
 use Rattle.uecp_phrases.proofs.OneMeaning.{one_meaning}
 use Rattle.uecp_phrases.proofs.Cutting.{empty_no_phrase}
@@ -31,6 +32,8 @@ retold region head.Pi placed dsn psn l bytes (n, is, _) = (spelling (Pi 0 0 n), 
 retold region head.Ps placed dsn psn l bytes (n, is, _) = (spelling (Ps 0 0 n), (n, is, refl))
 retold region head.Rt placed dsn psn l bytes (n, is, _) = (spelling (Rt 0 0 n), (n, is, refl))
 retold region head.Traffic placed dsn psn l bytes (n, is, _) = (spelling (TaTp 0 0 n), (n, is, refl))
+retold region head.Ta placed dsn psn l bytes (on, is, _) = (spelling (TaTp 0 0 (announcing on)), (on, is, refl))
+retold region head.Tp placed dsn psn l bytes (on, is, _) = (spelling (TaTp 0 0 (giving on)), (on, is, refl))
 retold region head.Music placed dsn psn l bytes (is, _) = (spelling (Ms 0 0 1), (is, refl))
 retold region head.Speech placed dsn psn l bytes (is, _) = (spelling (Ms 0 0 0), (is, refl))
 retold region head.Ms placed dsn psn l bytes (n, is, _) = (spelling (Ms 0 0 n), (n, is, refl))
@@ -47,6 +50,8 @@ acts region head.Pi placed dsn psn l bytes told is = refl
 acts region head.Ps placed dsn psn l bytes told is = refl
 acts region head.Rt placed dsn psn l bytes told is = refl
 acts region head.Traffic placed dsn psn l bytes told is = refl
+acts region head.Ta placed dsn psn l bytes told is = refl
+acts region head.Tp placed dsn psn l bytes told is = refl
 acts region head.Music placed dsn psn l bytes told is = refl
 acts region head.Speech placed dsn psn l bytes told is = refl
 acts region head.Ms placed dsn psn l bytes told is = refl
@@ -63,6 +68,10 @@ told_there region head.Pi placed dsn psn l may (bytes, (n, is, _)) = (spelling (
 told_there region head.Ps placed dsn psn l may (bytes, (n, is, _)) = (spelling (Ps dsn psn n), (n, is, refl))
 told_there region head.Rt placed dsn psn l may (bytes, (n, is, _)) = (spelling (Rt dsn psn n), (n, is, refl))
 told_there region head.Traffic placed dsn psn l may (bytes, (n, is, _)) = (spelling (TaTp dsn psn n), (n, is, refl))
+told_there region head.Ta placed dsn psn l may (bytes, (on, is, _)) =
+    (spelling (TaTp dsn psn (announcing on)), (on, is, refl))
+told_there region head.Tp placed dsn psn l may (bytes, (on, is, _)) =
+    (spelling (TaTp dsn psn (giving on)), (on, is, refl))
 told_there region head.Music placed dsn psn l may (bytes, (is, _)) = (spelling (Ms dsn psn 1), (is, refl))
 told_there region head.Speech placed dsn psn l may (bytes, (is, _)) = (spelling (Ms dsn psn 0), (is, refl))
 told_there region head.Ms placed dsn psn l may (bytes, (n, is, _)) = (spelling (Ms dsn psn n), (n, is, refl))
@@ -77,10 +86,12 @@ told_there region head.Raw placed dsn psn l may (bytes, (_, are, some)) = (bytes
 -- Behind the set, if one is said: a service, maybe, a first word and what it tells.
 record IsInPlace (region : Region) (in_set : Bool) (l : List Token) : Type 0 where
   service : Option (List ℕ)
+  token : Token
   first : Head
   rest : List Token
   psn : ℕ
-  whole : l ≡ service_said service ++ (Word (head_word first) ∷ rest)
+  whole : l ≡ service_said service ++ (token ∷ rest)
+  named : IsHead token first
   for_service : IsForService service psn
   may : (in_set || is_some service) ≡ true → acts_somewhere first ≡ true
   told : Told region first rest
@@ -93,19 +104,21 @@ in_same region w dsn named = record { to = λ l r. to l r.0 r.1 r.1.set refl; fr
     to : (l : List Token) (bytes : List ℕ) (p : IsPhrase region (Word (codes "in") ∷ Word w ∷ l) bytes)
         (set : Option (List ℕ)) → p.set ≡ set → IsInPlace region true l
     to l bytes p None is =
-        let whole = p.whole ∙ ap (λ s. set_said s ++ behind_set p.service p.head p.rest) is in
-        absurd (no_set_behind p.service p.head p.rest (Word w ∷ l, sym whole))
+        let whole = p.whole ∙ ap (λ s. set_said s ++ behind_set p.service p.first p.rest) is in
+        absurd (no_set_behind p.service p.first p.head p.rest p.named (Word w ∷ l, sym whole))
     to l bytes p (Some v) is =
-        let whole : Word (codes "in") ∷ Word w ∷ l ≡ Word (codes "in") ∷ Word v ∷ behind_set p.service p.head p.rest =
-        p.whole ∙ ap (λ s. set_said s ++ behind_set p.service p.head p.rest) is in
+        let whole : Word (codes "in") ∷ Word w ∷ l ≡ Word (codes "in") ∷ Word v ∷ behind_set p.service p.first p.rest =
+        p.whole ∙ ap (λ s. set_said s ++ behind_set p.service p.first p.rest) is in
         let placed : (is_some p.set || is_some p.service) ≡ true =
         ap (λ s. is_some s || is_some p.service) is in
         record {
           service = p.service;
+          token = p.first;
           first = p.head;
           rest = p.rest;
           psn = p.psn;
           whole = cc whole;
+          named = p.named;
           for_service = p.for_service;
           may = λ _. acts region p.head (is_some p.set || is_some p.service) p.dsn p.psn p.rest bytes p.told placed;
           told = retold region p.head (is_some p.set || is_some p.service) p.dsn p.psn p.rest bytes p.told;
@@ -118,11 +131,13 @@ in_same region w dsn named = record { to = λ l r. to l r.0 r.1 r.1.set refl; fr
           record {
             set = Some w;
             service = r.service;
+            first = r.token;
             head = r.first;
             rest = r.rest;
             dsn = dsn;
             psn = r.psn;
             whole = ap (λ x. Word (codes "in") ∷ Word w ∷ x) r.whole;
+            named = r.named;
             in_set = named;
             for_service = r.for_service;
             told = told.1;
@@ -138,18 +153,20 @@ out_same region t other = record { to = λ l r. to l r.0 r.1 r.1.set refl; from 
         → p.set ≡ set → IsInPlace region false (t ∷ l)
     to l bytes p None is = record {
       service = p.service;
+      token = p.first;
       first = p.head;
       rest = p.rest;
       psn = p.psn;
-      whole = p.whole ∙ ap (λ s. set_said s ++ behind_set p.service p.head p.rest) is;
+      whole = p.whole ∙ ap (λ s. set_said s ++ behind_set p.service p.first p.rest) is;
+      named = p.named;
       for_service = p.for_service;
       may = λ yes. acts region p.head (is_some p.set || is_some p.service) p.dsn p.psn p.rest bytes p.told
           (ap (λ s. is_some s || is_some p.service) is ∙ yes);
       told = retold region p.head (is_some p.set || is_some p.service) p.dsn p.psn p.rest bytes p.told;
     }
     to l bytes p (Some v) is =
-        let whole : t ∷ l ≡ Word (codes "in") ∷ Word v ∷ behind_set p.service p.head p.rest =
-        p.whole ∙ ap (λ s. set_said s ++ behind_set p.service p.head p.rest) is in
+        let whole : t ∷ l ≡ Word (codes "in") ∷ Word v ∷ behind_set p.service p.first p.rest =
+        p.whole ∙ ap (λ s. set_said s ++ behind_set p.service p.first p.rest) is in
         let same : t ≡ Word (codes "in") = cc in absurd (other same)
 
     from : (l : List Token) → IsInPlace region false (t ∷ l) → IsRead region (t ∷ l)
@@ -159,11 +176,13 @@ out_same region t other = record { to = λ l r. to l r.0 r.1 r.1.set refl; from 
           record {
             set = None;
             service = r.service;
+            first = r.token;
             head = r.first;
             rest = r.rest;
             dsn = 0;
             psn = r.psn;
             whole = r.whole;
+            named = r.named;
             in_set = refl;
             for_service = r.for_service;
             told = told.1;
@@ -179,65 +198,66 @@ or_true true = refl
 or_true false = refl
 
 -- What stands behind the first word, behind the set or alone.
-place_head : (region : Region) (b : Bool) (h : Head) → (b ≡ true → acts_somewhere h ≡ true)
-    → Same (λ l. IsInPlace region b (Word (head_word h) ∷ l)) (Told region h)
-place_head region b h may = record { to = λ l r. to l r r.service refl; from = from }
+place_head : (region : Region) (b : Bool) (t : Token) (h : Head) → IsHead t h → (b ≡ true → acts_somewhere h ≡ true)
+    → Same (λ l. IsInPlace region b (t ∷ l)) (Told region h)
+place_head region b t h named may = record { to = λ l r. to l r r.service refl; from = from }
   where
-    to : (l : List Token) (r : IsInPlace region b (Word (head_word h) ∷ l)) (service : Option (List ℕ))
-        → r.service ≡ service → Told region h l
+    to : (l : List Token) (r : IsInPlace region b (t ∷ l)) (service : Option (List ℕ)) → r.service ≡ service
+        → Told region h l
     to l r None is =
-        let whole : Word (head_word h) ∷ l ≡ Word (head_word r.first) ∷ r.rest =
-        r.whole ∙ ap (λ s. service_said s ++ (Word (head_word r.first) ∷ r.rest)) is in
-        let words : head_word r.first ≡ head_word h = cc whole in
+        let whole : t ∷ l ≡ r.token ∷ r.rest = r.whole ∙ ap (λ s. service_said s ++ (r.token ∷ r.rest)) is in
+        let firsts : r.token ≡ t = cc whole in
         let rests : r.rest ≡ l = cc whole in
-        subst (λ x. Told region h x) rests
-        (subst (λ k. Told region k r.rest) (one_head r.first h words) r.told)
+        let heads : r.first ≡ h = one_head t r.first h (subst (λ x. IsHead x r.first) firsts r.named) named in
+        subst (λ x. Told region h x) rests (subst (λ k. Told region k r.rest) heads r.told)
     to l r (Some s) is =
-        let whole : Word (head_word h) ∷ l ≡ Word (codes "for") ∷ Word s ∷ Word (head_word r.first) ∷ r.rest =
-        r.whole ∙ ap (λ x. service_said x ++ (Word (head_word r.first) ∷ r.rest)) is in
-        let word : head_word h ≡ codes "for" = cc whole in absurd (no_for h word)
+        let whole : t ∷ l ≡ Word (codes "for") ∷ Word s ∷ r.token ∷ r.rest =
+        r.whole ∙ ap (λ x. service_said x ++ (r.token ∷ r.rest)) is in
+        let word : t ≡ Word (codes "for") = cc whole in absurd (no_for t h named word)
 
-    from : (l : List Token) → Told region h l → IsInPlace region b (Word (head_word h) ∷ l)
+    from : (l : List Token) → Told region h l → IsInPlace region b (t ∷ l)
     from l told = record {
       service = None;
+      token = t;
       first = h;
       rest = l;
       psn = 0;
       whole = refl;
+      named = named;
       for_service = refl;
       may = λ yes. may (or_false b yes);
       told = told;
     }
 
 -- Behind a service.
-place_service : (region : Region) (b : Bool) (h : Head) (w : List ℕ) (psn : ℕ) → IsByte w psn
+place_service : (region : Region) (b : Bool) (t : Token) (h : Head) (w : List ℕ) (psn : ℕ) → IsHead t h → IsByte w psn
     → acts_somewhere h ≡ true
-    → Same (λ l. IsInPlace region b (Word (codes "for") ∷ Word w ∷ Word (head_word h) ∷ l)) (Told region h)
-place_service region b h w psn byte may = record { to = λ l r. to l r r.service refl; from = from }
+    → Same (λ l. IsInPlace region b (Word (codes "for") ∷ Word w ∷ t ∷ l)) (Told region h)
+place_service region b t h w psn named byte may = record { to = λ l r. to l r r.service refl; from = from }
   where
-    to : (l : List Token) (r : IsInPlace region b (Word (codes "for") ∷ Word w ∷ Word (head_word h) ∷ l))
+    to : (l : List Token) (r : IsInPlace region b (Word (codes "for") ∷ Word w ∷ t ∷ l))
         (service : Option (List ℕ)) → r.service ≡ service → Told region h l
     to l r None is =
-        let whole : Word (codes "for") ∷ Word w ∷ Word (head_word h) ∷ l ≡ Word (head_word r.first) ∷ r.rest =
-        r.whole ∙ ap (λ s. service_said s ++ (Word (head_word r.first) ∷ r.rest)) is in
-        let word : head_word r.first ≡ codes "for" = cc whole in absurd (no_for r.first word)
+        let whole : Word (codes "for") ∷ Word w ∷ t ∷ l ≡ r.token ∷ r.rest =
+        r.whole ∙ ap (λ s. service_said s ++ (r.token ∷ r.rest)) is in
+        let word : r.token ≡ Word (codes "for") = cc whole in absurd (no_for r.token r.first r.named word)
     to l r (Some s) is =
-        let whole : Word (codes "for") ∷ Word w ∷ Word (head_word h) ∷ l
-        ≡ Word (codes "for") ∷ Word s ∷ Word (head_word r.first) ∷ r.rest =
-        r.whole ∙ ap (λ x. service_said x ++ (Word (head_word r.first) ∷ r.rest)) is in
-        let words : head_word r.first ≡ head_word h = cc whole in
+        let whole : Word (codes "for") ∷ Word w ∷ t ∷ l ≡ Word (codes "for") ∷ Word s ∷ r.token ∷ r.rest =
+        r.whole ∙ ap (λ x. service_said x ++ (r.token ∷ r.rest)) is in
+        let firsts : r.token ≡ t = cc whole in
         let rests : r.rest ≡ l = cc whole in
-        subst (λ x. Told region h x) rests
-        (subst (λ k. Told region k r.rest) (one_head r.first h words) r.told)
+        let heads : r.first ≡ h = one_head t r.first h (subst (λ x. IsHead x r.first) firsts r.named) named in
+        subst (λ x. Told region h x) rests (subst (λ k. Told region k r.rest) heads r.told)
 
-    from : (l : List Token) → Told region h l
-        → IsInPlace region b (Word (codes "for") ∷ Word w ∷ Word (head_word h) ∷ l)
+    from : (l : List Token) → Told region h l → IsInPlace region b (Word (codes "for") ∷ Word w ∷ t ∷ l)
     from l told = record {
       service = Some w;
+      token = t;
       first = h;
       rest = l;
       psn = psn;
       whole = refl;
+      named = named;
       for_service = byte;
       may = λ yes. may;
       told = told;
@@ -257,12 +277,12 @@ next_service region b = record {
     only : (t : Token) (more : List Token) (r : IsInPlace region b (Word (codes "for") ∷ t ∷ more))
         (service : Option (List ℕ)) → r.service ≡ service → MayStand region what.Service t
     only t more r None is =
-        let whole : Word (codes "for") ∷ t ∷ more ≡ Word (head_word r.first) ∷ r.rest =
-        r.whole ∙ ap (λ s. service_said s ++ (Word (head_word r.first) ∷ r.rest)) is in
-        let word : head_word r.first ≡ codes "for" = cc whole in absurd (no_for r.first word)
+        let whole : Word (codes "for") ∷ t ∷ more ≡ r.token ∷ r.rest =
+        r.whole ∙ ap (λ s. service_said s ++ (r.token ∷ r.rest)) is in
+        let word : r.token ≡ Word (codes "for") = cc whole in absurd (no_for r.token r.first r.named word)
     only t more r (Some s) is =
-        let whole : Word (codes "for") ∷ t ∷ more ≡ Word (codes "for") ∷ Word s ∷ Word (head_word r.first) ∷ r.rest =
-        r.whole ∙ ap (λ x. service_said x ++ (Word (head_word r.first) ∷ r.rest)) is in
+        let whole : Word (codes "for") ∷ t ∷ more ≡ Word (codes "for") ∷ Word s ∷ r.token ∷ r.rest =
+        r.whole ∙ ap (λ x. service_said x ++ (r.token ∷ r.rest)) is in
         (s, r.psn, cc whole, subst (λ x. IsForService x r.psn) is r.for_service)
 
     may : (t : Token) → MayStand region what.Service t
@@ -272,10 +292,12 @@ next_service region b = record {
           Word (head_word head.Music) ∷ some.0,
           record {
             service = Some w;
+            token = Word (head_word head.Music);
             first = head.Music;
             rest = some.0;
             psn = psn;
             whole = ap (λ x. Word (codes "for") ∷ x ∷ Word (head_word head.Music) ∷ some.0) is;
+            named = own_head head.Music;
             for_service = byte;
             may = λ yes. refl;
             told = some.1;
@@ -284,12 +306,12 @@ next_service region b = record {
 
     ends : (r : IsInPlace region b (Word (codes "for") ∷ [])) (service : Option (List ℕ)) → r.service ≡ service → ⊥
     ends r None is =
-        let whole : Word (codes "for") ∷ [] ≡ Word (head_word r.first) ∷ r.rest =
-        r.whole ∙ ap (λ s. service_said s ++ (Word (head_word r.first) ∷ r.rest)) is in
-        let word : head_word r.first ≡ codes "for" = cc whole in no_for r.first word
+        let whole : Word (codes "for") ∷ [] ≡ r.token ∷ r.rest =
+        r.whole ∙ ap (λ s. service_said s ++ (r.token ∷ r.rest)) is in
+        let word : r.token ≡ Word (codes "for") = cc whole in no_for r.token r.first r.named word
     ends r (Some s) is =
-        let whole : Word (codes "for") ∷ [] ≡ Word (codes "for") ∷ Word s ∷ Word (head_word r.first) ∷ r.rest =
-        r.whole ∙ ap (λ x. service_said x ++ (Word (head_word r.first) ∷ r.rest)) is in
+        let whole : Word (codes "for") ∷ [] ≡ Word (codes "for") ∷ Word s ∷ r.token ∷ r.rest =
+        r.whole ∙ ap (λ x. service_said x ++ (r.token ∷ r.rest)) is in
         cc whole
 
 next_for : (region : Region) (b : Bool) (w : List ℕ) (psn : ℕ) → IsByte w psn
@@ -304,14 +326,15 @@ next_for region b w psn byte = record {
     only : (t : Token) (more : List Token) (r : IsInPlace region b (Word (codes "for") ∷ Word w ∷ t ∷ more))
         (service : Option (List ℕ)) → r.service ≡ service → MayStand region what.WordForService t
     only t more r None is =
-        let whole : Word (codes "for") ∷ Word w ∷ t ∷ more ≡ Word (head_word r.first) ∷ r.rest =
-        r.whole ∙ ap (λ s. service_said s ++ (Word (head_word r.first) ∷ r.rest)) is in
-        let word : head_word r.first ≡ codes "for" = cc whole in absurd (no_for r.first word)
+        let whole : Word (codes "for") ∷ Word w ∷ t ∷ more ≡ r.token ∷ r.rest =
+        r.whole ∙ ap (λ s. service_said s ++ (r.token ∷ r.rest)) is in
+        let word : r.token ≡ Word (codes "for") = cc whole in absurd (no_for r.token r.first r.named word)
     only t more r (Some s) is =
         let whole : Word (codes "for") ∷ Word w ∷ t ∷ more
-        ≡ Word (codes "for") ∷ Word s ∷ Word (head_word r.first) ∷ r.rest =
-        r.whole ∙ ap (λ x. service_said x ++ (Word (head_word r.first) ∷ r.rest)) is in
-        (r.first, cc whole, r.may (ap (λ x. b || is_some x) is ∙ or_true b))
+        ≡ Word (codes "for") ∷ Word s ∷ r.token ∷ r.rest =
+        r.whole ∙ ap (λ x. service_said x ++ (r.token ∷ r.rest)) is in
+        let firsts : r.token ≡ t = cc whole in
+        (r.first, subst (λ x. IsHead x r.first) firsts r.named, r.may (ap (λ x. b || is_some x) is ∙ or_true b))
 
     may : (t : Token) → MayStand region what.WordForService t
         → (more : List Token) × IsInPlace region b (Word (codes "for") ∷ Word w ∷ t ∷ more)
@@ -320,10 +343,12 @@ next_for region b w psn byte = record {
           some.0,
           record {
             service = Some w;
+            token = t;
             first = h;
             rest = some.0;
             psn = psn;
-            whole = ap (λ x. Word (codes "for") ∷ Word w ∷ x ∷ some.0) is;
+            whole = refl;
+            named = is;
             for_service = byte;
             may = λ yes. somewhere;
             told = some.1;
@@ -333,12 +358,12 @@ next_for region b w psn byte = record {
     ends : (r : IsInPlace region b (Word (codes "for") ∷ Word w ∷ [])) (service : Option (List ℕ))
         → r.service ≡ service → ⊥
     ends r None is =
-        let whole : Word (codes "for") ∷ Word w ∷ [] ≡ Word (head_word r.first) ∷ r.rest =
-        r.whole ∙ ap (λ s. service_said s ++ (Word (head_word r.first) ∷ r.rest)) is in
-        let word : head_word r.first ≡ codes "for" = cc whole in no_for r.first word
+        let whole : Word (codes "for") ∷ Word w ∷ [] ≡ r.token ∷ r.rest =
+        r.whole ∙ ap (λ s. service_said s ++ (r.token ∷ r.rest)) is in
+        let word : r.token ≡ Word (codes "for") = cc whole in no_for r.token r.first r.named word
     ends r (Some s) is =
-        let whole : Word (codes "for") ∷ Word w ∷ [] ≡ Word (codes "for") ∷ Word s ∷ Word (head_word r.first) ∷ r.rest =
-        r.whole ∙ ap (λ x. service_said x ++ (Word (head_word r.first) ∷ r.rest)) is in
+        let whole : Word (codes "for") ∷ Word w ∷ [] ≡ Word (codes "for") ∷ Word s ∷ r.token ∷ r.rest =
+        r.whole ∙ ap (λ x. service_said x ++ (r.token ∷ r.rest)) is in
         cc whole
 
 -- A phrase for service 00.
@@ -359,12 +384,13 @@ next_in region = record {
     only : (t : Token) (more : List Token) (r : IsInPlace region true (t ∷ more)) (service : Option (List ℕ))
         → r.service ≡ service → MayStand region what.WordInSet t
     only t more r None is =
-        let whole : t ∷ more ≡ Word (head_word r.first) ∷ r.rest =
-        r.whole ∙ ap (λ s. service_said s ++ (Word (head_word r.first) ∷ r.rest)) is in
-        inr (r.first, cc whole, r.may refl)
+        let whole : t ∷ more ≡ r.token ∷ r.rest =
+        r.whole ∙ ap (λ s. service_said s ++ (r.token ∷ r.rest)) is in
+        let firsts : r.token ≡ t = cc whole in
+        inr (r.first, subst (λ x. IsHead x r.first) firsts r.named, r.may refl)
     only t more r (Some s) is =
-        let whole : t ∷ more ≡ Word (codes "for") ∷ Word s ∷ Word (head_word r.first) ∷ r.rest =
-        r.whole ∙ ap (λ x. service_said x ++ (Word (head_word r.first) ∷ r.rest)) is in
+        let whole : t ∷ more ≡ Word (codes "for") ∷ Word s ∷ r.token ∷ r.rest =
+        r.whole ∙ ap (λ x. service_said x ++ (r.token ∷ r.rest)) is in
         inl (cc whole)
 
     may : (t : Token) → MayStand region what.WordInSet t → (more : List Token) × IsInPlace region true (t ∷ more)
@@ -372,20 +398,17 @@ next_in region = record {
         let more = for_zero region true in
         (more.0, subst (λ x. IsInPlace region true (x ∷ more.0)) (sym is) more.1)
     may t (inr (h, is, somewhere)) =
-        let some = some_told region h in (
-          some.0,
-          subst (λ x. IsInPlace region true (x ∷ some.0)) (sym is)
-              ((place_head region true h (λ yes. somewhere)).from some.0 some.1),
-        )
+        let some = some_told region h in
+        (some.0, (place_head region true t h is (λ yes. somewhere)).from some.0 some.1)
 
     ends : (r : IsInPlace region true []) (service : Option (List ℕ)) → r.service ≡ service → ⊥
     ends r None is =
-        let whole : [] ≡ Word (head_word r.first) ∷ r.rest =
-        r.whole ∙ ap (λ s. service_said s ++ (Word (head_word r.first) ∷ r.rest)) is in
+        let whole : [] ≡ r.token ∷ r.rest =
+        r.whole ∙ ap (λ s. service_said s ++ (r.token ∷ r.rest)) is in
         cc whole
     ends r (Some s) is =
-        let whole : [] ≡ Word (codes "for") ∷ Word s ∷ Word (head_word r.first) ∷ r.rest =
-        r.whole ∙ ap (λ x. service_said x ++ (Word (head_word r.first) ∷ r.rest)) is in
+        let whole : [] ≡ Word (codes "for") ∷ Word s ∷ r.token ∷ r.rest =
+        r.whole ∙ ap (λ x. service_said x ++ (r.token ∷ r.rest)) is in
         cc whole
 
 -- A phrase in all sets.
@@ -396,7 +419,8 @@ in_set_more region w dsn named =
     let more = Word (head_word head.Music) ∷ some.0 in (
       more,
       (in_same region w dsn named).from more
-          ((place_head region true head.Music (λ yes. refl)).from some.0 some.1),
+          ((place_head region true (Word (head_word head.Music)) head.Music (own_head head.Music) (λ yes. refl)).from
+          some.0 some.1),
     )
 
 next_set : (region : Region) → IsNext region (λ l. IsRead region (Word (codes "in") ∷ l)) [] what.DataSet
@@ -411,11 +435,11 @@ next_set region = record {
         (p : IsPhrase region (Word (codes "in") ∷ t ∷ more) bytes) (set : Option (List ℕ)) → p.set ≡ set
         → MayStand region what.DataSet t
     only t more bytes p None is =
-        let whole = p.whole ∙ ap (λ s. set_said s ++ behind_set p.service p.head p.rest) is in
-        absurd (no_set_behind p.service p.head p.rest (t ∷ more, sym whole))
+        let whole = p.whole ∙ ap (λ s. set_said s ++ behind_set p.service p.first p.rest) is in
+        absurd (no_set_behind p.service p.first p.head p.rest p.named (t ∷ more, sym whole))
     only t more bytes p (Some v) is =
-        let whole : Word (codes "in") ∷ t ∷ more ≡ Word (codes "in") ∷ Word v ∷ behind_set p.service p.head p.rest =
-        p.whole ∙ ap (λ s. set_said s ++ behind_set p.service p.head p.rest) is in
+        let whole : Word (codes "in") ∷ t ∷ more ≡ Word (codes "in") ∷ Word v ∷ behind_set p.service p.first p.rest =
+        p.whole ∙ ap (λ s. set_said s ++ behind_set p.service p.first p.rest) is in
         (v, p.dsn, cc whole, subst (λ x. IsInSet x p.dsn) is p.in_set)
 
     may : (t : Token) → MayStand region what.DataSet t
@@ -427,11 +451,11 @@ next_set region = record {
     ends : (bytes : List ℕ) (p : IsPhrase region (Word (codes "in") ∷ []) bytes) (set : Option (List ℕ))
         → p.set ≡ set → ⊥
     ends bytes p None is =
-        let whole = p.whole ∙ ap (λ s. set_said s ++ behind_set p.service p.head p.rest) is in
-        no_set_behind p.service p.head p.rest ([], sym whole)
+        let whole = p.whole ∙ ap (λ s. set_said s ++ behind_set p.service p.first p.rest) is in
+        no_set_behind p.service p.first p.head p.rest p.named ([], sym whole)
     ends bytes p (Some v) is =
-        let whole : Word (codes "in") ∷ [] ≡ Word (codes "in") ∷ Word v ∷ behind_set p.service p.head p.rest =
-        p.whole ∙ ap (λ s. set_said s ++ behind_set p.service p.head p.rest) is in
+        let whole : Word (codes "in") ∷ [] ≡ Word (codes "in") ∷ Word v ∷ behind_set p.service p.first p.rest =
+        p.whole ∙ ap (λ s. set_said s ++ behind_set p.service p.first p.rest) is in
         cc whole
 
 next_first : (region : Region) → IsNext region (IsRead region) [] what.FirstWord
@@ -445,19 +469,20 @@ next_first region = record {
     only : (t : Token) (more : List Token) (bytes : List ℕ) (p : IsPhrase region (t ∷ more) bytes)
         (set service : Option (List ℕ)) → p.set ≡ set → p.service ≡ service → MayStand region what.FirstWord t
     only t more bytes p (Some v) service is _ =
-        let whole : t ∷ more ≡ Word (codes "in") ∷ Word v ∷ behind_set p.service p.head p.rest =
-        p.whole ∙ ap (λ s. set_said s ++ behind_set p.service p.head p.rest) is in
+        let whole : t ∷ more ≡ Word (codes "in") ∷ Word v ∷ behind_set p.service p.first p.rest =
+        p.whole ∙ ap (λ s. set_said s ++ behind_set p.service p.first p.rest) is in
         inl (cc whole)
     only t more bytes p None (Some s) is is_for =
-        let whole : t ∷ more ≡ Word (codes "for") ∷ Word s ∷ Word (head_word p.head) ∷ p.rest =
-        p.whole ∙ ap (λ x. set_said x ++ behind_set p.service p.head p.rest) is
-        ∙ ap (λ x. behind_set x p.head p.rest) is_for in
+        let whole : t ∷ more ≡ Word (codes "for") ∷ Word s ∷ p.first ∷ p.rest =
+        p.whole ∙ ap (λ x. set_said x ++ behind_set p.service p.first p.rest) is
+        ∙ ap (λ x. behind_set x p.first p.rest) is_for in
         inr (inl (cc whole))
     only t more bytes p None None is is_for =
-        let whole : t ∷ more ≡ Word (head_word p.head) ∷ p.rest =
-        p.whole ∙ ap (λ x. set_said x ++ behind_set p.service p.head p.rest) is
-        ∙ ap (λ x. behind_set x p.head p.rest) is_for in
-        inr (inr (p.head, cc whole))
+        let whole : t ∷ more ≡ p.first ∷ p.rest =
+        p.whole ∙ ap (λ x. set_said x ++ behind_set p.service p.first p.rest) is
+        ∙ ap (λ x. behind_set x p.first p.rest) is_for in
+        let firsts : p.first ≡ t = cc whole in
+        inr (inr (p.head, subst (λ x. IsHead x p.head) firsts p.named))
 
     may : (t : Token) → MayStand region what.FirstWord t → (more : List Token) × IsRead region (t ∷ more)
     may t (inl is) =
@@ -474,13 +499,10 @@ next_first region = record {
         )
     may t (inr (inr (h, is))) =
         let some = some_told region h in
-        let other : Word (head_word h) ≡ Word (codes "in") → ⊥ = λ e.
-        let w : head_word h ≡ codes "in" = cc e in no_in h w in
         let nowhere : false ≡ true → acts_somewhere h ≡ true = λ e. absurd (false≢true e) in (
           some.0,
-          subst (λ x. IsRead region (x ∷ some.0)) (sym is)
-              ((out_same region (Word (head_word h)) other).from some.0
-              ((place_head region false h nowhere).from some.0 some.1)),
+          (out_same region t (no_in t h is)).from some.0
+              ((place_head region false t h is nowhere).from some.0 some.1),
         )
 
 -- ---- A phrase stops where a part of it does.
@@ -600,32 +622,32 @@ pub may_act : (set service : Option ℕ) (b d : Bool) (h : Head) → b ≡ is_so
 may_act set service b d h b_is d_is may said =
     may (ap (λ x. x || d) b_is ∙ ap (λ x. is_some set || x) d_is ∙ said)
 
-pub told_stop : (region : Region) (tokens behind left_over rest : List Token) (set service : Option ℕ) (h : Head)
-    (w : Expectation) (left : ℕ) → IsBefore (codes "in") IsSet tokens set behind
-    → IsBefore (codes "for") IsByte behind service left_over → left_over ≡ Word (head_word h) ∷ rest
+pub told_stop : (region : Region) (tokens behind left_over rest : List Token) (set service : Option ℕ) (t : Token)
+    (h : Head) (w : Expectation) (left : ℕ) → IsBefore (codes "in") IsSet tokens set behind
+    → IsBefore (codes "for") IsByte behind service left_over → left_over ≡ t ∷ rest → IsHead t h
     → ((is_some set || is_some service) ≡ true → acts_somewhere h ≡ true) → IsStop region (Told region h) rest w left
     → IsStop region (IsRead region) tokens w left
-told_stop region tokens behind left_over rest set None h w left before (same, _) is may stop =
-    lift region tokens behind rest set (Word (head_word h)) w left before (sym same ∙ is)
-    (same_stop region (λ l. IsInPlace region (is_some set) (Word (head_word h) ∷ l)) (Told region h) rest w left
-    (place_head region (is_some set) h (λ yes. may (ap (λ x. x || false) yes))) stop)
-told_stop region tokens behind left_over rest set (Some m) h w left before (name, whole, byte) is may stop =
-    lift region tokens behind (Word name ∷ Word (head_word h) ∷ rest) set (Word (codes "for")) w left before
+told_stop region tokens behind left_over rest set None t h w left before (same, _) is named may stop =
+    lift region tokens behind rest set t w left before (sym same ∙ is)
+    (same_stop region (λ l. IsInPlace region (is_some set) (t ∷ l)) (Told region h) rest w left
+    (place_head region (is_some set) t h named (λ yes. may (ap (λ x. x || false) yes))) stop)
+told_stop region tokens behind left_over rest set (Some m) t h w left before (name, whole, byte) is named may stop =
+    lift region tokens behind (Word name ∷ t ∷ rest) set (Word (codes "for")) w left before
     (whole ∙ ap (λ l. Word (codes "for") ∷ Word name ∷ l) is)
-    (stop_behind region (λ l. IsInPlace region (is_some set) (Word (codes "for") ∷ l))
-    (Word name ∷ Word (head_word h) ∷ []) (Word name ∷ Word (head_word h) ∷ rest) rest w left refl
-    (same_stop region (λ l. IsInPlace region (is_some set) (Word (codes "for") ∷ Word name ∷ Word (head_word h) ∷ l))
-    (Told region h) rest w left (place_service region (is_some set) h name m byte (may (or_true (is_some set)))) stop))
+    (stop_behind region (λ l. IsInPlace region (is_some set) (Word (codes "for") ∷ l)) (Word name ∷ t ∷ [])
+    (Word name ∷ t ∷ rest) rest w left refl
+    (same_stop region (λ l. IsInPlace region (is_some set) (Word (codes "for") ∷ Word name ∷ t ∷ l)) (Told region h)
+    rest w left (place_service region (is_some set) t h name m named byte (may (or_true (is_some set)))) stop))
 
 -- What is told and is too long makes the phrase one that is.
-pub told_long : (region : Region) (tokens behind left_over rest : List Token) (set service : Option ℕ) (h : Head)
-    (bytes : List ℕ) → IsBefore (codes "in") IsSet tokens set behind
-    → IsBefore (codes "for") IsByte behind service left_over → left_over ≡ Word (head_word h) ∷ rest
+pub told_long : (region : Region) (tokens behind left_over rest : List Token) (set service : Option ℕ) (t : Token)
+    (h : Head) (bytes : List ℕ) → IsBefore (codes "in") IsSet tokens set behind
+    → IsBefore (codes "for") IsByte behind service left_over → left_over ≡ t ∷ rest → IsHead t h
     → Tells region h (is_some set || is_some service) (or_zero set) (or_zero service) rest bytes → 255 < length bytes
     → IsLong region tokens
-told_long region tokens behind left_over rest set service h bytes before for_it is told many = record {
+told_long region tokens behind left_over rest set service t h bytes before for_it is named told many = record {
   bytes = bytes;
-  phrase = phrase_read region tokens behind left_over rest set service h bytes before for_it is told;
+  phrase = phrase_read region tokens behind left_over rest set service t h bytes before for_it is named told;
   many = many;
 }
 

@@ -19,6 +19,7 @@ use Rattle.uecp_phrases.specs.declared.head.Head.TheVariants as head
 use Rattle.uecp_phrases.specs.Phrases.{IsSet, set_said, service_said, IsInSet, IsForService}
 use Rattle.uecp_phrases.specs.Phrases.{head_word, AreBits, IsName, IsTraffic, IsProgrammeType, IsRadioText, IsGroup}
 use Rattle.uecp_phrases.specs.Phrases.{AreRaw, Tells, IsPhrase}
+use Rattle.uecp_phrases.proofs.Phrasing.{own_head}
 use Rattle.uecp_phrases.specs.Written.{set_token, set_tokens, service_tokens, place_tokens, bits_tokens, byte_token}
 use Rattle.uecp_phrases.specs.Written.{number_token, trimmed, phrase_of}
 use Rattle.uecp_phrases.specs.Written.{traffic_tokens, music_tokens, programme_type_tokens, text_tokens, group_tokens}
@@ -121,6 +122,7 @@ said_at region h rest dsn psn bytes d p tells =
     let for_service = service_place psn p in record {
       set = in_set.set;
       service = for_service.service;
+      first = Word (head_word h);
       head = h;
       rest = rest;
       dsn = dsn;
@@ -128,6 +130,7 @@ said_at region h rest dsn psn bytes d p tells =
       whole = append_assoc (set_tokens dsn) (service_tokens psn) (Word (head_word h) ∷ rest)
           ∙ ap (λ l. l ++ (service_tokens psn ++ (Word (head_word h) ∷ rest))) in_set.tokens
           ∙ ap (λ l. set_said in_set.set ++ (l ++ (Word (head_word h) ∷ rest))) for_service.tokens;
+      named = own_head h;
       in_set = in_set.meant;
       for_service = for_service.meant;
       told = tells (is_some in_set.set || is_some for_service.service);
@@ -139,11 +142,13 @@ said_alone : (region : Region) (h : Head) (rest : List Token) (bytes : List ℕ)
 said_alone region h rest bytes tells = record {
   set = None;
   service = None;
+  first = Word (head_word h);
   head = h;
   rest = rest;
   dsn = 0;
   psn = 0;
   whole = refl;
+  named = own_head h;
   in_set = refl;
   for_service = refl;
   told = tells;

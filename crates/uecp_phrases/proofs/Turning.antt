@@ -7,12 +7,12 @@ use Rattle.std.proofs.lemmas.List.{length-append, length-replicate}
 use Rattle.uecp_elements.specs.Grammar.{Part, NoText, Text, Element, Pi, Ps, TaTp, Ms, Pty, Rt, Select, Group, Ack}
 use Rattle.uecp_elements.specs.Grammar.{spelling, IsElement}
 use Rattle.rds_text.specs.declared.programme_type.Region.{Region}
-use Rattle.phrase_tokens.specs.Tokens.{Token, Word}
+use Rattle.phrase_tokens.specs.Tokens.{Token}
 use Rattle.uecp_phrases.specs.declared.head.Head.{Head}
 use Rattle.uecp_phrases.specs.declared.head.Head.TheVariants as head
 use Rattle.uecp_phrases.specs.Phrases.{Choice, Adds, Toggles, Stays, Times, Choices, choice_tokens, AreMade, no_choice}
-use Rattle.uecp_phrases.specs.Phrases.{is_turned, times_of, head_of, IsRadioText, head_word, set_said}
-use Rattle.uecp_phrases.specs.Phrases.{service_said, Tells, IsPhrase}
+use Rattle.uecp_phrases.specs.Phrases.{is_turned, times_of, head_of, IsRadioText, IsHead, set_said}
+use Rattle.uecp_phrases.specs.Phrases.{service_said, announcing, giving, Tells, IsPhrase}
 use Rattle.uecp_phrases.specs.Lines.{ends_phrase, phrases_in, AddEach}
 use Rattle.uecp_phrases.specs.Laws.{IsPlain, Turns, AreTurning, TextsTurn}
 
@@ -93,39 +93,44 @@ text_turns dsn psn (Text head text) tokens bytes plain (inl (choices, made, whol
 text_turns dsn psn (Text head text) tokens bytes plain (inr (word, whole, byte)) spelled =
     absurd ((subst ArePlain whole plain).0.not_bits refl)
 
-told_turns : (region : Region) (h : Head) (placed : Bool) (dsn psn : ℕ) (tokens : List Token) (bytes : List ℕ)
-    → ArePlain (Word (head_word h) ∷ tokens) → Tells region h placed dsn psn tokens bytes → AddsTurning bytes
-told_turns region head.Pi placed dsn psn tokens bytes plain (pi, is, spelled) =
+told_turns : (region : Region) (h : Head) (placed : Bool) (dsn psn : ℕ) (first : Token) (tokens : List Token)
+    (bytes : List ℕ) → IsHead first h → ArePlain (first ∷ tokens) → Tells region h placed dsn psn tokens bytes
+    → AddsTurning bytes
+told_turns region head.Pi placed dsn psn first tokens bytes named plain (pi, is, spelled) =
     record { element = Pi dsn psn pi; spelled = spelled; is_one = tt; turns = tt }
-told_turns region head.Ps placed dsn psn tokens bytes plain (name, (text, whole, few, filled), spelled) =
+told_turns region head.Ps placed dsn psn first tokens bytes named plain (name, (text, whole, few, filled), spelled) =
     record { element = Ps dsn psn name; spelled = spelled; is_one = ap length filled ∙ eight text few; turns = tt }
-told_turns region head.Rt placed dsn psn tokens bytes plain (part, is, spelled) =
+told_turns region head.Rt placed dsn psn first tokens bytes named plain (part, is, spelled) =
     text_turns dsn psn part tokens bytes plain.1 is spelled
-told_turns region head.Traffic placed dsn psn tokens bytes plain (raw, is, spelled) =
+told_turns region head.Traffic placed dsn psn first tokens bytes named plain (raw, is, spelled) =
     record { element = TaTp dsn psn raw; spelled = spelled; is_one = tt; turns = tt }
-told_turns region head.Music placed dsn psn tokens bytes plain (none, spelled) =
+told_turns region head.Ta placed dsn psn first tokens bytes named plain (on, is, spelled) =
+    record { element = TaTp dsn psn (announcing on); spelled = spelled; is_one = tt; turns = tt }
+told_turns region head.Tp placed dsn psn first tokens bytes named plain (on, is, spelled) =
+    record { element = TaTp dsn psn (giving on); spelled = spelled; is_one = tt; turns = tt }
+told_turns region head.Music placed dsn psn first tokens bytes named plain (none, spelled) =
     record { element = Ms dsn psn 1; spelled = spelled; is_one = tt; turns = tt }
-told_turns region head.Speech placed dsn psn tokens bytes plain (none, spelled) =
+told_turns region head.Speech placed dsn psn first tokens bytes named plain (none, spelled) =
     record { element = Ms dsn psn 0; spelled = spelled; is_one = tt; turns = tt }
-told_turns region head.Ms placed dsn psn tokens bytes plain (raw, is, spelled) =
+told_turns region head.Ms placed dsn psn first tokens bytes named plain (raw, is, spelled) =
     record { element = Ms dsn psn raw; spelled = spelled; is_one = tt; turns = tt }
-told_turns region head.Pty placed dsn psn tokens bytes plain (raw, is, spelled) =
+told_turns region head.Pty placed dsn psn first tokens bytes named plain (raw, is, spelled) =
     record { element = Pty dsn psn raw; spelled = spelled; is_one = tt; turns = tt }
-told_turns region head.Set placed dsn psn tokens bytes plain (nowhere, (set, is, spelled)) =
+told_turns region head.Set placed dsn psn first tokens bytes named plain (nowhere, (set, is, spelled)) =
     record { element = Select set; spelled = spelled; is_one = tt; turns = tt }
-told_turns region head.Group placed dsn psn tokens bytes plain
+told_turns region head.Group placed dsn psn first tokens bytes named plain
     (nowhere, (kind, mode, block3, block4, is, spelled)) =
     record { element = Group kind mode block3 block4; spelled = spelled; is_one = tt; turns = tt }
-told_turns region head.Ack placed dsn psn tokens bytes plain (nowhere, (code, counter, is, spelled)) =
+told_turns region head.Ack placed dsn psn first tokens bytes named plain (nowhere, (code, counter, is, spelled)) =
     record { element = Ack code counter; spelled = spelled; is_one = tt; turns = tt }
-told_turns region head.Raw placed dsn psn tokens bytes plain told = absurd (plain.0.not_raw refl)
+told_turns region head.Raw placed dsn psn first tokens bytes named plain told = absurd (plain.0.not_raw named)
 
 phrase_turns : (region : Region) (tokens : List Token) (bytes : List ℕ) → ArePlain tokens
     → IsPhrase region tokens bytes → AddsTurning bytes
 phrase_turns region tokens bytes plain p =
-    let others = service_said p.service ++ (Word (head_word p.head) ∷ p.rest) in
-    told_turns region p.head (is_some p.set || is_some p.service) p.dsn p.psn p.rest bytes
-    (behind (service_said p.service) (Word (head_word p.head) ∷ p.rest)
+    let others = service_said p.service ++ (p.first ∷ p.rest) in
+    told_turns region p.head (is_some p.set || is_some p.service) p.dsn p.psn p.first p.rest bytes p.named
+    (behind (service_said p.service) (p.first ∷ p.rest)
     (behind (set_said p.set) others (subst ArePlain p.whole plain))) p.told
 
 -- ---- A line.

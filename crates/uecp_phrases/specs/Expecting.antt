@@ -8,7 +8,7 @@ use Rattle.uecp_phrases.specs.declared.head.Head.{Head}
 use Rattle.uecp_phrases.specs.declared.head.Head.TheVariants as head
 use Rattle.uecp_phrases.specs.declared.expectation.Expectation.{Expectation}
 use Rattle.uecp_phrases.specs.declared.expectation.Expectation.TheVariants as what
-use Rattle.uecp_phrases.specs.Phrases.{IsSet, IsTrafficWord, IsGroupType, head_word, IsPhrase}
+use Rattle.uecp_phrases.specs.Phrases.{IsSet, IsTrafficWord, IsGroupType, switch_word, IsHead, IsPhrase}
 
 -- Whether a phrase of this first word may say where it acts.
 abbrev pub acts_somewhere : Head → Bool
@@ -20,12 +20,12 @@ acts_somewhere h = true
 
 -- The first word of a phrase that acts somewhere.
 abbrev pub IsPlacedWord : Token → Type 0
-IsPlacedWord t = (h : Head) × (t ≡ Word (head_word h)) × (acts_somewhere h ≡ true)
+IsPlacedWord t = (h : Head) × IsHead t h × (acts_somewhere h ≡ true)
 
 -- The token may stand where this is expected.
 abbrev pub MayStand : Region → Expectation → Token → Type 0
 MayStand region what.FirstWord t =
-    (t ≡ Word (codes "in")) ⊎ ((t ≡ Word (codes "for")) ⊎ ((h : Head) × (t ≡ Word (head_word h))))
+    (t ≡ Word (codes "in")) ⊎ ((t ≡ Word (codes "for")) ⊎ ((h : Head) × IsHead t h))
 MayStand region what.WordInSet t = (t ≡ Word (codes "for")) ⊎ IsPlacedWord t
 MayStand region what.WordForService t = IsPlacedWord t
 MayStand region what.DataSet t = (w : List ℕ) × (dsn : ℕ) × (t ≡ Word w) × IsSet w dsn
@@ -39,6 +39,7 @@ MayStand region what.RadioText t =
 MayStand region what.Bits t = t ≡ Word (codes "bits")
 MayStand region what.Traffic t =
     ((w : List ℕ) × (raw : ℕ) × (t ≡ Word w) × IsTrafficWord w raw) ⊎ (t ≡ Word (codes "bits"))
+MayStand region what.Switch t = (on : Bool) × (t ≡ Word (switch_word on))
 MayStand region what.ProgrammeType t =
     ((name : List ℕ) × (raw : ℕ) × (t ≡ Quoted name) × HasName region raw name)
     ⊎ (((w : List ℕ) × (raw : ℕ) × (t ≡ Word w) × (decimal_in 31 w ≡ Some raw)) ⊎ (t ≡ Word (codes "bits")))

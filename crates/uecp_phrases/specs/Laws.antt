@@ -1,12 +1,15 @@
 -- Laws of phrases (profile).
-use Rattle.std.specs.Prelude.{◌≡◌, ◌≢◌, ◌≤◌, ◌%◌, ℕ, List, ◌∷◌, ◌++◌, length, codes, flat_map}
+use Rattle.std.specs.Prelude.{◌≡◌, ◌≢◌, ◌≤◌, ◌%◌, ◌↔◌, ℕ, List, [], ◌∷◌, ◌++◌, length, map, codes, flat_map, Option}
 use Rattle.std.specs.List.{AllByRecursion}
+use Rattle.std.specs.Char.{to_ascii_lowercase}
 use Rattle.uecp_elements.specs.Grammar.{Element, Rt, Text, IsElement, AreBytes, spelling}
 use Rattle.rds_text.specs.declared.programme_type.Region.{Region}
 use Rattle.phrase_tokens.specs.Tokens.{Token, Word, IsToken}
-use Rattle.uecp_phrases.specs.Phrases.{IsPhrase}
+use Rattle.uecp_phrases.specs.declared.head.Head.{Head}
+use Rattle.uecp_phrases.specs.declared.head.Head.TheVariants as head
+use Rattle.uecp_phrases.specs.Phrases.{set_said, service_said, head_word, IsHead, IsPhrase}
 use Rattle.uecp_phrases.specs.Written.{phrase_of, raw_phrase, line_of}
-use Rattle.uecp_phrases.specs.Lines.{Say}
+use Rattle.uecp_phrases.specs.Lines.{phrases_in, Say}
 use Rattle.uecp_phrases.specs.declared.expectation.Expectation.{Expectation}
 use Rattle.uecp_phrases.specs.declared.expectation.Expectation.TheVariants as what
 use Rattle.uecp_phrases.specs.Faults.{IsToldAt}
@@ -41,14 +44,44 @@ abbrev pub IsLineWritable : Type 0
 IsLineWritable =
     (region : Region) (message : List ℕ) → AreBytes message → AllByRecursion IsToken (line_of region message)
 
+-- ---- Words for what has others.
+
+-- In whatever line the one is said, in whatever set and for whatever service, the line with the other in its place says
+-- the same message, and no other.
+abbrev pub AreAlike : (one other : List Token) → Type 0
+AreAlike one other =
+    (region : Region) (line changed : List Token) (before behind : List (List Token)) (set service : Option (List ℕ))
+    (message : List ℕ)
+    → phrases_in line ≡ before ++ (set_said set ++ (service_said service ++ one)) ∷ behind
+    → phrases_in changed ≡ before ++ (set_said set ++ (service_said service ++ other)) ∷ behind
+    → Say region line message ↔ Say region changed message
+
+-- Two words.
+abbrev pub said : (first second : List ℕ) → List Token
+said first second = Word first ∷ Word second ∷ []
+
+-- Law: `ta on` is `traffic announcement`, `ta off` and `tp on` are `traffic programme`, and `tp off` is `traffic none`.
+abbrev pub AreTrafficSwitches : Type 0
+AreTrafficSwitches =
+    AreAlike (said (codes "ta") (codes "on")) (said (codes "traffic") (codes "announcement"))
+    × AreAlike (said (codes "ta") (codes "off")) (said (codes "traffic") (codes "programme"))
+    × AreAlike (said (codes "tp") (codes "on")) (said (codes "traffic") (codes "programme"))
+    × AreAlike (said (codes "tp") (codes "off")) (said (codes "traffic") (codes "none"))
+
+-- Law: the first word of a phrase says in capitals, or in some, what it says in small letters, with whatever behind it.
+abbrev pub IsAnyCase : Type 0
+IsAnyCase =
+    (h : Head) (word : List ℕ) (rest : List Token) → map to_ascii_lowercase word ≡ head_word h
+    → AreAlike (Word word ∷ rest) (Word (head_word h) ∷ rest)
+
 -- ---- The A/B flag.
--- A token that can be written, and is none of the words `same`, `bits` and `raw`: it lets the flag turn, and tells no
--- byte as it is.
+-- A token that can be written, and is none of the words `same`, `bits` and, in any case, `raw`: it lets the flag turn,
+-- and tells no byte as it is.
 pub record IsPlain (token : Token) : Type 0 where
   pub writable : IsToken token
   pub not_same : token ≢ Word (codes "same")
   pub not_bits : token ≢ Word (codes "bits")
-  pub not_raw : token ≢ Word (codes "raw")
+  pub not_raw : IsHead token head.Raw → ⊥
 
 -- The flag turns with the element's text, if it has one: bit 0 of its head is set (SPB 490, RadioText; bits: profile).
 abbrev pub Turns : Element → Type 0

@@ -12,7 +12,7 @@ use Rattle.uecp_phrases.specs.declared.expectation.Expectation.TheVariants as wh
 use Rattle.uecp_phrases.specs.declared.head.Head.{Head}
 use Rattle.uecp_phrases.specs.declared.nearest.Near.{Near}
 use Rattle.uecp_phrases.specs.Expecting.{MayStand}
-use Rattle.uecp_phrases.specs.Phrases.{head_word}
+use Rattle.uecp_phrases.specs.Phrases.{IsHead}
 
 -- ---- The words that may stand at a place.
 
@@ -20,18 +20,20 @@ use Rattle.uecp_phrases.specs.Phrases.{head_word}
 -- types. Digits and texts are offered nowhere.
 abbrev pub words_at : Expectation → List (List ℕ)
 words_at what.FirstWord =
-    codes "in" ∷ codes "for" ∷ codes "pi" ∷ codes "ps" ∷ codes "rt" ∷ codes "traffic" ∷ codes "music"
-    ∷ codes "speech" ∷ codes "ms" ∷ codes "pty" ∷ codes "set" ∷ codes "group" ∷ codes "ack" ∷ codes "raw" ∷ []
+    codes "in" ∷ codes "for" ∷ codes "pi" ∷ codes "ps" ∷ codes "rt" ∷ codes "traffic" ∷ codes "ta"
+    ∷ codes "tp" ∷ codes "music" ∷ codes "speech" ∷ codes "ms" ∷ codes "pty" ∷ codes "set" ∷ codes "group"
+    ∷ codes "ack" ∷ codes "raw" ∷ []
 words_at what.WordInSet =
-    codes "for" ∷ codes "pi" ∷ codes "ps" ∷ codes "rt" ∷ codes "traffic" ∷ codes "music" ∷ codes "speech"
-    ∷ codes "ms" ∷ codes "pty" ∷ []
+    codes "for" ∷ codes "pi" ∷ codes "ps" ∷ codes "rt" ∷ codes "traffic" ∷ codes "ta" ∷ codes "tp"
+    ∷ codes "music" ∷ codes "speech" ∷ codes "ms" ∷ codes "pty" ∷ []
 words_at what.WordForService =
-    codes "pi" ∷ codes "ps" ∷ codes "rt" ∷ codes "traffic" ∷ codes "music" ∷ codes "speech" ∷ codes "ms"
-    ∷ codes "pty" ∷ []
+    codes "pi" ∷ codes "ps" ∷ codes "rt" ∷ codes "traffic" ∷ codes "ta" ∷ codes "tp" ∷ codes "music"
+    ∷ codes "speech" ∷ codes "ms" ∷ codes "pty" ∷ []
 words_at what.DataSet = codes "all" ∷ codes "others" ∷ []
 words_at what.RadioText = codes "clear" ∷ codes "bits" ∷ []
 words_at what.Traffic =
     codes "none" ∷ codes "eon" ∷ codes "programme" ∷ codes "announcement" ∷ codes "bits" ∷ []
+words_at what.Switch = codes "off" ∷ codes "on" ∷ []
 words_at what.Bits = codes "bits" ∷ []
 words_at what.ProgrammeType = codes "bits" ∷ []
 words_at what.GroupType = codes "bits" ∷ []
@@ -94,9 +96,9 @@ IsNearest letters words (Some word) = (before : List (List ℕ)) × (behind : Li
     × AllByRecursion (λ other. IsNear letters other → distance letters word < distance letters other) before
     × AllByRecursion (λ other. IsNear letters other → distance letters word ≤ distance letters other) behind
 
--- The token is the first word of a phrase, spelled right.
+-- The token is the first word of a phrase, spelled right, whatever the case of its letters.
 abbrev pub IsFirstWord : Token → Type 0
-IsFirstWord t = (h : Head) × (t ≡ Word (head_word h))
+IsFirstWord t = (h : Head) × IsHead t h
 
 -- This is offered for a token that stands where this may: the nearest of the words that may stand there, if one is
 -- near; and nothing for the first word of a phrase, spelled right, which stands at the wrong place.

@@ -1,7 +1,8 @@
 -- What a phrase means: the bytes that it adds to a message. A phrase says where it acts, begins with a word of its own,
 -- and goes on with numbers, names or a text (profile).
 use Rattle.std.specs.Prelude.{◌≡◌, ◌⊎◌, ℕ, ◌+◌, ◌-◌, ◌*◌, ◌≤◌, Bool, true, false, if◌then◌else◌, List, [], ◌∷◌, ◌++◌}
-use Rattle.std.specs.Prelude.{◌||◌, is_some, length, replicate, flat_map, codes, Option, Some, None}
+use Rattle.std.specs.Prelude.{◌||◌, is_some, length, map, replicate, flat_map, codes, Option, Some, None}
+use Rattle.std.specs.Char.{to_ascii_lowercase}
 use Rattle.uecp_elements.specs.Grammar.{Part, NoText, Text, Pi, Ps, TaTp, Ms, Pty, Rt, Select, Group, Ack}
 use Rattle.uecp_elements.specs.Grammar.{spelling}
 use Rattle.uecp_text.specs.Words.{IsByte, IsNumber, decimal_in}
@@ -48,6 +49,8 @@ head_word head.Pi = codes "pi"
 head_word head.Ps = codes "ps"
 head_word head.Rt = codes "rt"
 head_word head.Traffic = codes "traffic"
+head_word head.Ta = codes "ta"
+head_word head.Tp = codes "tp"
 head_word head.Music = codes "music"
 head_word head.Speech = codes "speech"
 head_word head.Ms = codes "ms"
@@ -56,6 +59,10 @@ head_word head.Set = codes "set"
 head_word head.Group = codes "group"
 head_word head.Ack = codes "ack"
 head_word head.Raw = codes "raw"
+
+-- The token is this word, whatever the case of its letters.
+abbrev pub IsHead : Token → Head → Type 0
+IsHead t h = (word : List ℕ) × (t ≡ Word word) × (map to_ascii_lowercase word ≡ head_word h)
 
 -- A byte whose bits have no name is told as it is.
 abbrev pub AreBits : List Token → ℕ → Type 0
@@ -81,6 +88,23 @@ IsTrafficWord word raw =
 abbrev pub IsTraffic : List Token → ℕ → Type 0
 IsTraffic tokens raw =
     ((word : List ℕ) × (tokens ≡ Word word ∷ []) × IsTrafficWord word raw) ⊎ AreBits tokens raw
+
+-- A switch: the word on or the word off, and no other.
+abbrev pub switch_word : (on : Bool) → List ℕ
+switch_word true = codes "on"
+switch_word false = codes "off"
+
+abbrev pub IsSwitch : List Token → (on : Bool) → Type 0
+IsSwitch tokens on = tokens ≡ Word (switch_word on) ∷ []
+
+-- What a station switches of its traffic flags. An announcement is given by a programme that gives them, and leaves it
+-- one: TP and TA while it is on, TP alone when it is off. A programme gives announcements, TP, or none (SPB 490; words:
+-- profile).
+abbrev pub announcing : (on : Bool) → ℕ
+announcing on = if on then 3 else 2
+
+abbrev pub giving : (on : Bool) → ℕ
+giving on = if on then 2 else 0
 
 -- A programme type: a name of the region, a number up to 31, or a byte.
 abbrev pub IsProgrammeType : Region → List Token → ℕ → Type 0
@@ -201,6 +225,10 @@ Tells region head.Rt placed dsn psn tokens bytes =
     (part : Part) × IsRadioText tokens part × (bytes ≡ spelling (Rt dsn psn part))
 Tells region head.Traffic placed dsn psn tokens bytes =
     (raw : ℕ) × IsTraffic tokens raw × (bytes ≡ spelling (TaTp dsn psn raw))
+Tells region head.Ta placed dsn psn tokens bytes =
+    (on : Bool) × IsSwitch tokens on × (bytes ≡ spelling (TaTp dsn psn (announcing on)))
+Tells region head.Tp placed dsn psn tokens bytes =
+    (on : Bool) × IsSwitch tokens on × (bytes ≡ spelling (TaTp dsn psn (giving on)))
 Tells region head.Music placed dsn psn tokens bytes = (tokens ≡ []) × (bytes ≡ spelling (Ms dsn psn 1))
 Tells region head.Speech placed dsn psn tokens bytes = (tokens ≡ []) × (bytes ≡ spelling (Ms dsn psn 0))
 Tells region head.Ms placed dsn psn tokens bytes = (raw : ℕ) × AreBits tokens raw × (bytes ≡ spelling (Ms dsn psn raw))
@@ -219,11 +247,13 @@ Tells region head.Raw placed dsn psn tokens bytes = (placed ≡ false) × AreRaw
 pub record IsPhrase (region : Region) (tokens : List Token) (bytes : List ℕ) : Type 0 where
   pub set : Option (List ℕ)
   pub service : Option (List ℕ)
+  pub first : Token
   pub head : Head
   pub rest : List Token
   pub dsn : ℕ
   pub psn : ℕ
-  pub whole : tokens ≡ set_said set ++ (service_said service ++ (Word (head_word head) ∷ rest))
+  pub whole : tokens ≡ set_said set ++ (service_said service ++ (first ∷ rest))
+  pub named : IsHead first head
   pub in_set : IsInSet set dsn
   pub for_service : IsForService service psn
   pub told : Tells region head (is_some set || is_some service) dsn psn rest bytes

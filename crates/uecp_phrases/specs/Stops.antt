@@ -5,7 +5,7 @@ use Rattle.phrase_tokens.specs.Tokens.{Token, Word}
 use Rattle.uecp_phrases.specs.declared.head.Head.{Head}
 use Rattle.uecp_phrases.specs.declared.expectation.Expectation.{Expectation}
 use Rattle.uecp_phrases.specs.declared.expectation.Expectation.TheVariants as what
-use Rattle.uecp_phrases.specs.Phrases.{head_word, Tells, Choices, Make}
+use Rattle.uecp_phrases.specs.Phrases.{IsHead, IsSwitch, Tells, Choices, Make}
 use Rattle.uecp_phrases.specs.Expecting.{acts_somewhere, MayStand, IsStop}
 
 -- What stands in front may not.
@@ -31,7 +31,7 @@ pub record IsStopBefore (word : List ℕ) (wanted : Expectation) (tokens : List 
 abbrev pub IsNoHead : (placed : Bool) → List Token → Type 0
 IsNoHead placed [] = Unit {0}
 IsNoHead placed (t ∷ rest) =
-    (h : Head) → t ≡ Word (head_word h) → (placed ≡ true → acts_somewhere h ≡ true) → ⊥
+    (h : Head) → IsHead t h → (placed ≡ true → acts_somewhere h ≡ true) → ⊥
 
 -- The tokens behind a phrase's first word tell the rest, whatever they add.
 abbrev pub Told : Region → Head → List Token → Type 0
@@ -66,6 +66,10 @@ IsAddOrEnd l = (l ≡ []) ⊎ (l ≡ Word (codes "add") ∷ [])
 -- The end.
 abbrev pub IsEnd : List Token → Type 0
 IsEnd l = l ≡ []
+
+-- The tokens are a switch, on or off.
+abbrev pub IsSwitched : List Token → Type 0
+IsSwitched l = (on : Bool) × IsSwitch l on
 
 -- The tokens make choices behind those that were made before.
 abbrev pub AreChosen : (before : Choices) → List Token → Type 0

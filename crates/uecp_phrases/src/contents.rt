@@ -1,17 +1,18 @@
 //! What stands behind the first word of a phrase (profile).
-ghost use Rattle.std.specs.Prelude.{◌≡◌, ◌-◌, ◌≤◌, ℕ, [], ◌∷◌, ◌++◌, length, replicate, get_or};
+ghost use Rattle.std.specs.Prelude.{◌≡◌, ◌≢◌, ◌-◌, ◌≤◌, ℕ, Bool, [], ◌∷◌, ◌++◌, length, replicate, get_or};
 ghost use Rattle.std.specs.Prelude.{IfSome, IfNone, IfOk, IfErr};
 ghost use Rattle.rds_text.specs.declared.programme_type.Region.{Region as Where};
 ghost use Rattle.uecp_elements.specs.Grammar.{Rt, IsElement};
 ghost use Rattle.uecp_elements.specs.View.{part_of};
+ghost use Rattle.phrase_tokens.specs.Tokens.{Word};
 ghost use Rattle.phrase_tokens.specs.View.{token_of, tokens_of};
 ghost use Rattle.uecp_phrases.specs.declared.head.Head.TheVariants as head;
 ghost use Rattle.uecp_phrases.specs.declared.expectation.Expectation.TheVariants as what;
 ghost use Rattle.uecp_phrases.specs.Phrases.{AreBits, IsPi, IsName, IsTraffic, IsTrafficWord, IsProgrammeType};
-ghost use Rattle.uecp_phrases.specs.Phrases.{IsRadioText, IsSelected, IsAck};
+ghost use Rattle.uecp_phrases.specs.Phrases.{IsRadioText, IsSelected, IsAck, IsSwitch, switch_word};
 ghost use Rattle.uecp_phrases.specs.Reading.{IsNamed, IsTypeNamed, IsFirstText, IsTextOfBits};
-ghost use Rattle.uecp_phrases.specs.Expecting.{IsStop};
-ghost use Rattle.uecp_phrases.specs.Stops.{IsStuck, IsUntold, IsUnmet, IsEnd, Told};
+ghost use Rattle.uecp_phrases.specs.Expecting.{IsStop, IsStopAlways};
+ghost use Rattle.uecp_phrases.specs.Stops.{IsStuck, IsSwitched, IsUntold, IsUnmet, IsEnd, Told};
 
 use crate::choices::head_in;
 use crate::expectation::Expectation;
@@ -144,6 +145,34 @@ fn traffic_named(word: &[u8]) -> Option<u8>
         Some(TrafficName::Programme) => Some(2),
         Some(TrafficName::Announcement) => Some(3),
         None => None,
+    }
+}
+
+/// A switch, on or off, and the end of the phrase.
+pub fn switch_in(tokens: &[Token]) -> Result<bool, Stop>
+    ensures ok { IfOk result (IsSwitch (tokens_of tokens.now)) }
+    ensures err { IfErr result (λ stop. IsStopAlways IsSwitched (tokens_of tokens.now) stop.what stop.left) }
+{
+    let stop = stop_at(Expectation::Switch, tokens);
+    let Some((first, rest)) = tokens.split_first() else {
+        return Err(stop);
+    };
+    let Some(is_on) = is_on(first) else {
+        return Err(stop);
+    };
+    end_in(rest)?;
+    Ok(is_on)
+}
+
+/// Whether the switch that a token names is on, if it names one.
+fn is_on(token: &Token) -> Option<bool>
+    ensures some { IfSome result (λ on. token_of token.now ≡ Word (switch_word on)) }
+    ensures none { IfNone result ((on : Bool) → token_of token.now ≢ Word (switch_word on)) }
+{
+    match token.word()? {
+        b"on" => Some(true),
+        b"off" => Some(false),
+        _ => None,
     }
 }
 

@@ -27,6 +27,8 @@ pub enum Expectation {
     Bits,
     /// What stands behind `traffic`.
     Traffic,
+    /// What stands behind `ta` and `tp`.
+    Switch,
     /// What stands behind `pty`.
     ProgrammeType,
     /// A choice behind a RadioText, or the end of the phrase: which choices may still be made.
@@ -65,8 +67,8 @@ impl Expectation {
     pub fn text(self) -> &'static str {
         match self {
             Expectation::FirstWord => "the first word of a phrase",
-            Expectation::WordInSet => "for, pi, ps, rt, traffic, music, speech, ms or pty",
-            Expectation::WordForService => "pi, ps, rt, traffic, music, speech, ms or pty",
+            Expectation::WordInSet => "for, pi, ps, rt, traffic, ta, tp, music, speech, ms or pty",
+            Expectation::WordForService => "pi, ps, rt, traffic, ta, tp, music, speech, ms or pty",
             Expectation::DataSet => "a data set: its number, others or all",
             Expectation::Service => "a programme service: two hexadecimal digits",
             Expectation::TwoDigits => "two hexadecimal digits",
@@ -76,6 +78,7 @@ impl Expectation {
             Expectation::RadioText => "a text between quotes, clear or bits",
             Expectation::Bits => "bits",
             Expectation::Traffic => "none, eon, programme, announcement or bits",
+            Expectation::Switch => "on or off",
             Expectation::ProgrammeType => {
                 "a name of a programme type between quotes, a number up to 31, or bits"
             }

@@ -1,6 +1,6 @@
 //! The laws of phrases, each as the contract of a function that does nothing (profile).
 ghost use Rattle.uecp_phrases.specs.Laws.{IsSaidAsWritten, IsWritable, IsOneMeaning, IsRawSaid, IsMessageSaid};
-ghost use Rattle.uecp_phrases.specs.Laws.{IsLineWritable, TextsTurn, IsFirstStop};
+ghost use Rattle.uecp_phrases.specs.Laws.{IsLineWritable, AreTrafficSwitches, IsAnyCase, TextsTurn, IsFirstStop};
 ghost use Rattle.uecp_phrases.specs.Nearest.{OfferedMayStand};
 
 /// What is written of an element is a phrase, and adds that element's spelling.
@@ -34,6 +34,16 @@ pub fn message_said()
 /// The tokens of that line are such as can be written, so that by the laws of `phrase_tokens` its text reads as them.
 pub fn line_writable()
     ensures { IsLineWritable }
+{}
+
+/// `ta` and `tp` say what `traffic` does: a line says a message with the one exactly where it does with the other.
+pub fn traffic_switches()
+    ensures { AreTrafficSwitches }
+{}
+
+/// The first word of a phrase says the same in whatever case.
+pub fn any_case()
+    ensures { IsAnyCase }
 {}
 
 /// Of a line with none of the words `same`, `bits` and `raw` the A/B flag turns with each text.

@@ -167,18 +167,19 @@ fn words(what: Expectation) -> &'static [&'static str]
 {
     match what {
         Expectation::FirstWord => &[
-            "in", "for", "pi", "ps", "rt", "traffic", "music", "speech", "ms", "pty", "set",
-            "group", "ack", "raw",
+            "in", "for", "pi", "ps", "rt", "traffic", "ta", "tp", "music", "speech", "ms", "pty",
+            "set", "group", "ack", "raw",
         ],
         Expectation::WordInSet => &[
-            "for", "pi", "ps", "rt", "traffic", "music", "speech", "ms", "pty",
+            "for", "pi", "ps", "rt", "traffic", "ta", "tp", "music", "speech", "ms", "pty",
         ],
         Expectation::WordForService => &[
-            "pi", "ps", "rt", "traffic", "music", "speech", "ms", "pty",
+            "pi", "ps", "rt", "traffic", "ta", "tp", "music", "speech", "ms", "pty",
         ],
         Expectation::DataSet => &["all", "others"],
         Expectation::RadioText => &["clear", "bits"],
         Expectation::Traffic => &["none", "eon", "programme", "announcement", "bits"],
+        Expectation::Switch => &["off", "on"],
         Expectation::Bits | Expectation::ProgrammeType | Expectation::GroupType => &["bits"],
         Expectation::Added => &["add"],
         Expectation::Choice { add, same, times } => choices(add, same, times),

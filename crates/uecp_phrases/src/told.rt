@@ -1,17 +1,19 @@
 //! What stands behind a phrase's first word, and what the phrase adds (profile).
-ghost use Rattle.std.specs.Prelude.{◌≡◌, ◌<◌, ◌++◌, ◌∷◌, false, ℕ, List, [], length, IfSome, IfNone, IfOk, IfErr};
-ghost use Rattle.uecp_elements.specs.Grammar.{IsElement, spelling, Ms};
+ghost use Rattle.std.specs.Prelude.{◌≡◌, ◌<◌, ◌++◌, ◌∷◌, false, ℕ, Bool, List, [], length, IfSome, IfNone, IfOk, IfErr};
+ghost use Rattle.std.specs.Prelude.{if◌then◌else◌};
+ghost use Rattle.uecp_elements.specs.Grammar.{IsElement, spelling, TaTp, Ms};
 ghost use Rattle.uecp_elements.specs.View.{element_of};
 ghost use Rattle.phrase_tokens.specs.View.{tokens_of};
 ghost use Rattle.rds_text.specs.declared.programme_type.Region.TheVariants.{Europe};
 ghost use Rattle.uecp_phrases.specs.declared.head.Head.TheVariants as head;
-ghost use Rattle.uecp_phrases.specs.Phrases.{Tells};
+ghost use Rattle.uecp_phrases.specs.Phrases.{IsSwitch, Tells};
 ghost use Rattle.uecp_phrases.specs.Reading.{IsHeld};
 ghost use Rattle.uecp_phrases.specs.Expecting.{IsStop, IsStopAlways};
-ghost use Rattle.uecp_phrases.specs.Stops.{Told, IsUntold, IsEnd};
+ghost use Rattle.uecp_phrases.specs.Stops.{Told, IsUntold, IsSwitched, IsEnd};
 
 use crate::contents::{
-    ack_in, bits_in, name_in, pi_in, programme_type_in, radio_text_in, selected_in, traffic_in,
+    ack_in, bits_in, name_in, pi_in, programme_type_in, radio_text_in, selected_in, switch_in,
+    traffic_in,
 };
 use crate::expectation::Expectation;
 use crate::front::{byte_first, end_in};
@@ -57,6 +59,8 @@ pub fn told(
             let raw = traffic_in(tokens)?;
             Ok(Some(spelled(&Element::TaTp { dsn, psn, raw })))
         }
+        Head::Ta => Ok(Some(switched(place, tokens, 3, 2)?)),
+        Head::Tp => Ok(Some(switched(place, tokens, 2, 0)?)),
         Head::Music => Ok(Some(music(place, tokens, 1)?)),
         Head::Speech => Ok(Some(music(place, tokens, 0)?)),
         Head::Ms => {
@@ -78,6 +82,18 @@ pub fn told(
         }
         Head::Raw => raw_told(tokens),
     }
+}
+
+/// Traffic flags by a switch: one byte where it is on, the other where it is off.
+fn switched(place: Place, tokens: &[Token], on: u8, off: u8) -> Result<Message, Stop>
+    ensures ok { IfOk result (λ m. (is_on : Bool) × IsSwitch (tokens_of tokens.now) is_on
+        × (m ≡ spelling (TaTp place.dsn place.psn (if is_on then on else off)))) }
+    ensures err { IfErr result (λ stop. IsStopAlways IsSwitched (tokens_of tokens.now) stop.what stop.left) }
+{
+    let is_on = switch_in(tokens)?;
+    let raw = if is_on { on } else { off };
+    let Place { dsn, psn } = place;
+    Ok(spelled(&Element::TaTp { dsn, psn, raw }))
 }
 
 /// Music or speech: nothing stands behind the word.

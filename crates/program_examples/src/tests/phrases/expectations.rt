@@ -9,7 +9,13 @@ use uecp_phrases::{Expectation, Expected, expected_in};
 /// Lines that say nothing, the index at which something else was expected, what, and the nearest word.
 const WRONG: &[(&str, usize, &str, Option<&str>)] = &[
     (r#"pss "A""#, 0, "the first word of a phrase", Some("ps")),
-    (r#"PS "A""#, 0, "the first word of a phrase", Some("ps")),
+    (
+        r#"IN 2 PS "A""#,
+        0,
+        "the first word of a phrase",
+        Some("in"),
+    ),
+    (r#"PSS "A""#, 0, "the first word of a phrase", Some("ps")),
     (
         r#""Traffic" none"#,
         0,
@@ -37,13 +43,19 @@ const WRONG: &[(&str, usize, &str, Option<&str>)] = &[
     (
         "in 2 set 2",
         2,
-        "for, pi, ps, rt, traffic, music, speech, ms or pty",
+        "for, pi, ps, rt, traffic, ta, tp, music, speech, ms or pty",
+        None,
+    ),
+    (
+        "in 2 SET 2",
+        2,
+        "for, pi, ps, rt, traffic, ta, tp, music, speech, ms or pty",
         None,
     ),
     (
         "in 2 musik",
         2,
-        "for, pi, ps, rt, traffic, music, speech, ms or pty",
+        "for, pi, ps, rt, traffic, ta, tp, music, speech, ms or pty",
         Some("music"),
     ),
     (
@@ -55,13 +67,13 @@ const WRONG: &[(&str, usize, &str, Option<&str>)] = &[
     (
         "for 0A in 2 music",
         2,
-        "pi, ps, rt, traffic, music, speech, ms or pty",
+        "pi, ps, rt, traffic, ta, tp, music, speech, ms or pty",
         None,
     ),
     (
         "for 0A; music",
         2,
-        "pi, ps, rt, traffic, music, speech, ms or pty",
+        "pi, ps, rt, traffic, ta, tp, music, speech, ms or pty",
         None,
     ),
     ("pi C20", 1, "four hexadecimal digits", None),
@@ -139,6 +151,13 @@ const OTHERS: &[(&str, usize, &str, Option<&str>)] = &[
         Some("none"),
     ),
     ("ms bist 03", 1, "bits", Some("bits")),
+    ("ta", 1, "on or off", None),
+    ("TA ON", 1, "on or off", Some("on")),
+    ("in 2 ta onn", 3, "on or off", Some("on")),
+    ("for 0A tp of", 3, "on or off", Some("off")),
+    ("ta announcement", 1, "on or off", None),
+    ("tp on off", 2, "the end of the phrase", None),
+    ("tq on", 0, "the first word of a phrase", Some("ta")),
     (
         r#"pty "Pop Musik""#,
         1,

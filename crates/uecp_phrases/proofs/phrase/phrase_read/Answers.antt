@@ -37,10 +37,11 @@ returns-in_err-head-clause-err c =
 pub returns-in_err-message-clause-err : goal.returns-in_err-message-clause-err
 returns-in_err-message-clause-err c =
     let stop = c.in_err-message.field-0.0 in
+    let first = c.in_ok-head.ensures.ok in
     err_is c.from_residual-in_err-message.result stop _ (search rules)
     (inl (told_stop c.args.region (tokens_of c.args.tokens.now) (tokens_of c.in_ok-set.behind.now)
     (tokens_of c.in_ok-service.behind.now) (tokens_of c.in_ok-head.rest.now) c.in_ok-set.set c.in_ok-service.service
-    c.in_ok-head.head stop.what stop.left c.in_ok-set.ensures.ok c.in_ok-service.ensures.ok c.in_ok-head.ensures.ok
+    first.0 c.in_ok-head.head stop.what stop.left c.in_ok-set.ensures.ok c.in_ok-service.ensures.ok first.1 first.2
     (may_act c.in_ok-set.set c.in_ok-service.service c.is_some.result c.is_some-2.result c.in_ok-head.head
     c.is_some.ensures c.is_some-2.ensures c.in_ok-head.ensures.acts) c.in_err-message.ensures.err))
 
@@ -51,9 +52,10 @@ returns-in-Some-clause-ok c =
     let told = some_at c.in_ok-message.field-0 c.in-Some.message
     (λ m. Tells c.args.region h false c.place_of.result.dsn c.place_of.result.psn rest m) c.in-Some.is
     c.in_ok-message.ensures.some in
+    let first = c.in_ok-head.ensures.ok in
     phrase_read c.args.region (tokens_of c.args.tokens.now) (tokens_of c.in_ok-set.behind.now)
-    (tokens_of c.in_ok-service.behind.now) rest c.in_ok-set.set c.in_ok-service.service h c.in-Some.message
-    c.in_ok-set.ensures.ok c.in_ok-service.ensures.ok c.in_ok-head.ensures.ok
+    (tokens_of c.in_ok-service.behind.now) rest c.in_ok-set.set c.in_ok-service.service first.0 h c.in-Some.message
+    c.in_ok-set.ensures.ok c.in_ok-service.ensures.ok first.1 first.2
     (told_at c.args.region h c.place_of.result.dsn c.place_of.result.psn c.in_ok-set.set c.in_ok-service.service rest
     c.in-Some.message c.place_of.ensures.set c.place_of.ensures.service
     (may_act c.in_ok-set.set c.in_ok-service.service c.is_some.result c.is_some-2.result h c.is_some.ensures
@@ -70,10 +72,11 @@ returns-in-None-clause-err c =
     c.in_ok-service.service rest long.0 c.place_of.ensures.set c.place_of.ensures.service
     (may_act c.in_ok-set.set c.in_ok-service.service c.is_some.result c.is_some-2.result h c.is_some.ensures
     c.is_some-2.ensures c.in_ok-head.ensures.acts) long.1 in
+    let first = c.in_ok-head.ensures.ok in
     inr (
       told_long c.args.region (tokens_of c.args.tokens.now) (tokens_of c.in_ok-set.behind.now)
-          (tokens_of c.in_ok-service.behind.now) rest c.in_ok-set.set c.in_ok-service.service h long.0
-          c.in_ok-set.ensures.ok c.in_ok-service.ensures.ok c.in_ok-head.ensures.ok there long.2,
+          (tokens_of c.in_ok-service.behind.now) rest c.in_ok-set.set c.in_ok-service.service first.0 h long.0
+          c.in_ok-set.ensures.ok c.in_ok-service.ensures.ok first.1 first.2 there long.2,
       c.stop_at.ensures.what,
       counted c.args.tokens.now c.stop_at.result.left c.stop_at.ensures.left,
     )
