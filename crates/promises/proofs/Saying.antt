@@ -1,7 +1,8 @@
 -- What is said in words without `same`, `bits` and `raw` keeps the toggle of each text set.
 use Rattle.std.proofs.Common.{◌≡◌, ℕ, zero, suc, ◌-◌, Bool, true, false, ◌&&◌, List, [], ◌∷◌, ◌++◌, map, replicate}
 use Rattle.std.proofs.Common.{flat_map, Ok, Option, Some, None, inl, inr, refl, sym, ap, subst, ◌∙◌, cond, append-nil}
-use Rattle.std.proofs.Common.{slice_get}
+use Rattle.std.proofs.Common.{slice_get, length, take, ◌≤◌, ◌<◌, arith}
+use Rattle.std.proofs.lemmas.List.{length-take-le}
 use Rattle.std.proofs.Common.{if◌then◌else◌, eqb, nat_lt}
 use Rattle.std.specs.Prelude.{unwrap_or}
 use Rattle.std.specs.List.{AllByRecursion}
@@ -17,6 +18,10 @@ use Rattle.uecp_elements.proofs.Public.{reads_items}
 use Rattle.rds_text.specs.declared.programme_type.Region.{Region}
 use Rattle.uecp_phrases.specs.Laws.{Turns, AreTurning}
 use Rattle.uecp_phrases.proofs.Public.{texts_turn}
+use Rattle.titles.specs.declared.title.Title.{Title}
+use Rattle.titles.specs.declared.title.Title.TheVariants as title
+use Rattle.titles.specs.Titles.{GivesTitle}
+use Rattle.titles.specs.Cut.{IsCut, IsCutBehind}
 use Rattle.rds_store.specs.declared.group.Group.{Group as WaitingGroup}
 use Rattle.rds_store.specs.Value.{Store, ServiceData, StoredText, place_cmp}
 use Rattle.rds_store.specs.Content.{adds, radio_text, taken, opening_service}
@@ -29,7 +34,8 @@ use Rattle.rds_store.proofs.Public.{changes_named_places_alone, get-all_places, 
 use Rattle.carousel.specs.Carousel.{Carousel}
 use Rattle.carousel.specs.Next.{aired, is_queued}
 use Rattle.promises.specs.AirLaws.{Toggles}
-use Rattle.promises.specs.Said.{Event, Comes, GoesOut, stores_of, IsPlainlySaid, IsSaid, EachToggles, TogglesStaySet}
+use Rattle.promises.specs.Said.{Event, Comes, GoesOut, stores_of, IsTitled, IsSaid, IsSaidSo, EachToggles}
+use Rattle.promises.specs.Said.{TogglesStaySet, title_message}
 use Rattle.promises.specs.Said.{NoSaidTextIsMixed}
 use Rattle.promises.proofs.Mixing.{all_behind, no_text_is_mixed, no_text_is_mixed_over_a_start}
 
@@ -100,15 +106,63 @@ turning_items message turning bytes =
       end = refl;
     })
 
-message_set : (region : Region) (v : Store) (message : List ℕ) → IsPlainlySaid region message → EachToggles v
+-- a text that is cut has room
+within : (text : List ℕ) (count : ℕ) → 64 < length text → IsCutBehind text count → length (take count text) ≤ 64
+within text count many (inl (more, most, ends, none)) =
+    let len = length-take-le count text (omega (arith, most, many)) in omega (arith, len, most)
+within text count many (inr (same, none)) =
+    let len = length-take-le count text (omega (arith, same, many)) in omega (arith, len, same)
+
+cut_has_room : (text shown : List ℕ) → IsCut text shown → length shown ≤ 64
+cut_has_room text shown (inl (few, is)) = subst (λ t. length t ≤ 64) (sym is) few
+cut_has_room text shown (inr (many, (count, behind, is))) =
+    subst (λ t. length t ≤ 64) (sym is) (within text count many behind)
+
+-- the RadioText of a title turns the flag
+title_turns : (service : ℕ) (text message : List ℕ) → message ≡ spelling (Rt 0 service (Text 1 text))
+    → length text ≤ 64 → AreTurning message
+title_turns service text message is few = record {
+  elements = Rt 0 service (Text 1 text) ∷ [];
+  joined = is ∙ sym (append-nil (spelling (Rt 0 service (Text 1 text))));
+  each = (few, tt);
+  turning = (refl, tt);
+}
+
+titled_turns : (message : List ℕ) → IsTitled message → AreTurning message
+titled_turns message titled = by titled.given titled.gives titled.is
+  where
+    own : (m : List ℕ) → Some m ≡ Some message → AreTurning m → AreTurning message
+    own m same turning = let is : m ≡ message = cc in subst AreTurning is turning
+
+    by : (given : Title) → GivesTitle titled.titles titled.line given → title_message given ≡ Some message
+        → AreTurning message
+    by title.Nothing gives is = absurd cc
+    by (title.Stands m) (can, some, (text, stands, eq)) is =
+        let (bytes, are, whole, few) = stands in
+        own m is (title_turns titled.titles.service text m eq few)
+    by (title.Fits m shown) (can, fit, none, (text, made, eq, told)) is =
+        let (bytes, fitted, left, cut) = made in
+        own m is (title_turns titled.titles.service text m eq
+        (cut_has_room (titled.titles.prefix.now ++ bytes) text cut))
+
+said_turns : (region : Region) (message : List ℕ) → IsSaidSo region message → AreTurning message
+said_turns region message (inl said) = texts_turn region said.tokens message said.plain said.says
+said_turns region message (inr titled) = titled_turns message titled
+
+said_bytes : (region : Region) (message : List ℕ) → IsSaidSo region message → AreBytes message
+said_bytes region message (inl said) = said.bytes
+said_bytes region message (inr titled) = titled.bytes
+
+message_set : (region : Region) (v : Store) (message : List ℕ) → IsSaidSo region message → EachToggles v
     → EachToggles (step v message).0
 message_set region v message said each = by (is_applied (element_by_element v message).1)
   where
     turning : AreTurning message
-    turning = texts_turn region said.tokens message said.plain said.says
+    turning = said_turns region message said
 
     all_put : EachToggles (element_by_element v message).0
-    all_put = subst (λ is. EachToggles (folded put v is).0) (sym (turning_items message turning said.bytes))
+    all_put = subst (λ is. EachToggles (folded put v is).0)
+        (sym (turning_items message turning (said_bytes region message said)))
         (folded_set turning.elements v turning.turning each)
 
     by : (b : Bool) → EachToggles (if b then (element_by_element v message).0 else v)

@@ -1,5 +1,5 @@
 -- What a station says in words, between the groups that go out.
-use Rattle.std.specs.Prelude.{ℕ, ◌≡◌, ◌⊎◌, true, List, [], ◌∷◌, Some}
+use Rattle.std.specs.Prelude.{ℕ, ◌≡◌, ◌⊎◌, true, List, [], ◌∷◌, Option, Some, None}
 use Rattle.std.specs.List.{AllByRecursion}
 use Rattle.std.specs.FinMap.{get}
 use Rattle.uecp_elements.specs.Grammar.{AreBytes}
@@ -7,6 +7,10 @@ use Rattle.rds_text.specs.declared.programme_type.Region.{Region}
 use Rattle.phrase_tokens.specs.Tokens.{Token}
 use Rattle.uecp_phrases.specs.Lines.{Say}
 use Rattle.uecp_phrases.specs.Laws.{IsPlain}
+use Rattle.titles.specs.declared.title.Titles.{Titles}
+use Rattle.titles.specs.declared.title.Title.{Title}
+use Rattle.titles.specs.declared.title.Title.TheVariants as title
+use Rattle.titles.specs.Titles.{GivesTitle}
 use Rattle.rds_store.specs.Value.{Store, ServiceData, StoredText}
 use Rattle.rds_store.specs.Step.{step, group_taken}
 use Rattle.rds_store.specs.Opening.{opening}
@@ -35,9 +39,28 @@ pub record IsPlainlySaid (region : Region) (message : List ℕ) : Type 0 where
   pub says : Say region tokens message
   pub bytes : AreBytes message
 
--- Each message that comes is said so.
+-- The message of a title, where it gives one: as it stands, or made to fit.
+abbrev pub title_message : Title → Option (List ℕ)
+title_message title.Nothing = None
+title_message (title.Stands message) = Some message
+title_message (title.Fits message shown) = Some message
+
+-- The message, of bytes, is that of a line's title.
+pub record IsTitled (message : List ℕ) : Type 0 where
+  pub titles : Titles
+  pub line : List ℕ
+  pub given : Title
+  pub gives : GivesTitle titles line given
+  pub is : title_message given ≡ Some message
+  pub bytes : AreBytes message
+
+-- It is said in such words, or is a title.
+abbrev pub IsSaidSo : Region → (message : List ℕ) → Type 0
+IsSaidSo region message = IsPlainlySaid region message ⊎ IsTitled message
+
+-- Each message that comes is.
 abbrev pub IsSaid : Region → Event → Type 0
-IsSaid region (Comes message) = IsPlainlySaid region message
+IsSaid region (Comes message) = IsSaidSo region message
 IsSaid region GoesOut = Unit {0}
 
 -- ---- Laws.
@@ -50,11 +73,11 @@ EachToggles v =
 -- Law: a new store has no other text, and such messages, whatever they say, and groups that go out leave none.
 pub record TogglesStaySet : Type 0 where
   pub opened : (sets : ℕ) (services : List ℕ) → EachToggles (opening sets services)
-  pub message : (region : Region) (v : Store) (message : List ℕ) → IsPlainlySaid region message → EachToggles v
+  pub message : (region : Region) (v : Store) (message : List ℕ) → IsSaidSo region message → EachToggles v
       → EachToggles (step v message).0
   pub take : (v : Store) → EachToggles v → EachToggles (group_taken v).0
 
--- Law: where each message is said in such words, whatever it says and whenever it comes, a receiver that heard nothing
+-- Law: where each message is said in such words or is a title, whatever it says and whenever it comes, a receiver that heard nothing
 -- of a text, or of the one that is on the air alone, or another station, or held anything and hears an empty text of a
 -- start, and misses no group, shows of a text the one that is on the air, or nothing: no mix. A new PI stays for two
 -- groups at least.

@@ -49,12 +49,12 @@ pub fn no_text_is_mixed_over_a_start()
     ensures { NoTextIsMixedOverAStart }
 {}
 
-/// What is said in words, none of them `same`, `bits` or `raw`, keeps the toggle of each text set.
+/// What is said in words, none of them `same`, `bits` or `raw`, and each title, keeps the toggle of each text set.
 pub fn toggles_stay_set()
     ensures { TogglesStaySet }
 {}
 
-/// Where a station is said in such words, no text is mixed.
+/// Where a station is said in such words, or its texts are titles, no text is mixed.
 pub fn no_said_text_is_mixed()
     ensures { NoSaidTextIsMixed }
 {}
