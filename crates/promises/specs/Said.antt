@@ -77,10 +77,10 @@ pub record TogglesStaySet : Type 0 where
       → EachToggles (step v message).0
   pub take : (v : Store) → EachToggles v → EachToggles (group_taken v).0
 
--- Law: where each message is said in such words or is a title, whatever it says and whenever it comes, a receiver that heard nothing
--- of a text, or of the one that is on the air alone, or another station, or held anything and hears an empty text of a
--- start, and misses no group, shows of a text the one that is on the air, or nothing: no mix. A new PI stays for two
--- groups at least.
+-- Law: where each message is said in such words or is a title, whatever it says and whenever it comes, a receiver that
+-- heard nothing of a text, or of the one that is on the air alone, or another station, or held anything and hears an
+-- empty text of a start, and misses no group, shows of a text the one that is on the air, or nothing: no mix. A new PI
+-- stays for two groups at least.
 abbrev pub NoSaidTextIsMixed : Type 0
 NoSaidTextIsMixed =
     (region : Region) (events : List Event) (v : Store) (c : Carousel) (r : Receiver)
