@@ -3,6 +3,7 @@ use lib.Pointwise.{pointwise}
 use Rattle.std.proofs.Common.{◌≡◌, ℕ, ◌==◌, ◌/◌, ◌%◌, nat_le, Bool, true, false, not, ◌&&◌, List, [], ◌∷◌, ◌++◌, codes}
 use Rattle.std.proofs.Common.{chars, map, Option, Some, None, Ok, refl, sym, ap, ◌∙◌, subst, inl, inr, arith}
 use Rattle.std.specs.Char.{to_ascii_lowercase}
+use Rattle.std.proofs.lemmas.Bool.{false≢true}
 use Rattle.hex.specs.Hex.{decode_sized}
 use Rattle.uecp_frame.specs.Frame.{high_first}
 use Rattle.rds_text.specs.declared.programme_type.Region.{Region}
@@ -32,21 +33,24 @@ pub record Opens (tokens : List Token) : Type 0 where
 
 -- ---- No phrase begins with the first word of a frame's line.
 
+head_opens : (h : Head) → is_opening (head_word h) ≡ true
+head_opens head.Pi = refl
+head_opens head.Ps = refl
+head_opens head.Rt = refl
+head_opens head.Traffic = refl
+head_opens head.Ta = refl
+head_opens head.Tp = refl
+head_opens head.Music = refl
+head_opens head.Speech = refl
+head_opens head.Ms = refl
+head_opens head.Pty = refl
+head_opens head.Set = refl
+head_opens head.Group = refl
+head_opens head.Ack = refl
+head_opens head.Raw = refl
+
 no_head : (h : Head) → codes "frame" ≡ head_word h → ⊥
-no_head head.Pi e = cc e
-no_head head.Ps e = cc e
-no_head head.Rt e = cc e
-no_head head.Traffic e = cc e
-no_head head.Ta e = cc e
-no_head head.Tp e = cc e
-no_head head.Music e = cc e
-no_head head.Speech e = cc e
-no_head head.Ms e = cc e
-no_head head.Pty e = cc e
-no_head head.Set e = cc e
-no_head head.Group e = cc e
-no_head head.Ack e = cc e
-no_head head.Raw e = cc e
+no_head h is = false≢true (ap is_opening is ∙ head_opens h)
 
 no_frame_head : (t : Token) (h : Head) → t ≡ Word (codes "frame") → IsHead t h → ⊥
 no_frame_head t h is (w, own, named) =
