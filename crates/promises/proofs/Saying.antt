@@ -137,10 +137,10 @@ titled_turns message titled = by titled.given titled.gives titled.is
     by : (given : Title) → GivesTitle titled.titles titled.line given → title_message given ≡ Some message
         → AreTurning message
     by title.Nothing gives is = absurd cc
-    by (title.Stands m) (can, some, (text, stands, eq)) is =
+    by (title.Stands m) (can, (some, (text, stands, eq))) is =
         let (bytes, are, whole, few) = stands in
         own m is (title_turns titled.titles.service text m eq few)
-    by (title.Fits m shown) (can, fit, none, (text, made, eq, told)) is =
+    by (title.Fits m shown) (can, (fit, none, (text, made, eq, told))) is =
         let (bytes, fitted, left, cut) = made in
         own m is (title_turns titled.titles.service text m eq
         (cut_has_room (titled.titles.prefix.now ++ bytes) text cut))
