@@ -6,6 +6,7 @@ at the state, starts or ends too, and is started again at once; so is the encode
 of the file before, each message is told once at most, under its number and with the code that it has where all are applied once each
 and in order, and at the end the encoder's store is that of all the lines."""
 
+import contextlib
 import importlib.machinery
 import importlib.util
 import os
@@ -47,6 +48,12 @@ def spool_script():
     return found
 
 
+def kill_group(child):
+    """Kills a child with its children; it may have ended just now, and been waited for."""
+    with contextlib.suppress(ProcessLookupError):
+        os.killpg(child.pid, signal.SIGKILL)
+
+
 class Group(kept_state.End):
     """An end whose child has children: all of them are killed together."""
 
@@ -56,11 +63,11 @@ class Group(kept_state.End):
     def kill(self, child):
         with self.lock:
             if self.left and child is self.child and child.poll() is None:
-                os.killpg(child.pid, signal.SIGKILL)
+                kill_group(child)
 
     def stop(self):
         if self.child and self.child.poll() is None:
-            os.killpg(self.child.pid, signal.SIGKILL)
+            kill_group(self.child)
 
 
 class Spool(kept_state.Seed):
