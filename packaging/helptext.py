@@ -27,6 +27,7 @@ class Command(NamedTuple):
     arguments: list  # of pairs: what stands for it, and its text
     options: list
     after: list  # the lines behind all these
+    page: list  # the lines of one whose help is a page of its own, with no usage and no options in it
 
 
 class Program(NamedTuple):
@@ -83,7 +84,14 @@ def parts_of(text):
 def command_of(name, text):
     about, usage, lists, after = parts_of(text)
     arguments = [(word.strip("<>"), text.strip()) for word, text in pairs_of(lists.get("Arguments", []))]
-    return Command(name, about, usage, arguments, [option_of(line) for line in lists.get("Options", [])], after)
+    return Command(name, about, usage, arguments, [option_of(line) for line in lists.get("Options", [])], after, [])
+
+
+def page_of(program, name, text, others):
+    """A command whose help is a page: its options are those that all others have."""
+    options = [option for option in others[0].options if all(option in other.options for other in others)]
+    lines = text.rstrip("\n").split("\n")
+    return Command(name, lines[0], f"{program} {name} [OPTIONS]", [], options, [], lines)
 
 
 def read(program):
@@ -91,5 +99,7 @@ def read(program):
     name, version = said(program, "--version").split()[:2]
     text = said(program, "--help")
     commands = [(word, text.strip()) for word, text in pairs_of(parts_of(text)[2]["Commands"])]
-    each = {word: command_of(word, said(program, word, "--help")) for word, _ in commands if word != "help"}
+    texts = {word: said(program, word, "--help") for word, _ in commands if word != "help"}
+    plain = {word: command_of(word, text) for word, text in texts.items() if "\nUsage: " in text}
+    each = {word: plain.get(word) or page_of(name, word, text, list(plain.values())) for word, text in texts.items()}
     return Program(name, version, command_of(name, text), commands, each)

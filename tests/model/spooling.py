@@ -4,7 +4,8 @@ tests/run/sending: what tests/run/kept_state does to `uecp server`.
 Each run of the script is killed whole, with its shell and `tail`, by the bytes that passed since its start or by the time, while it looks
 at the state, starts or ends too, and is started again at once; so is the encoder. The first line of a run must say what `uecp state` said
 of the file before, each message is told once at most, under its number and with the code that it has where all are applied once each
-and in order, and at the end the encoder's store is that of all the lines."""
+and in order, and at the end the encoder's store is that of all the lines. Each 20th line of the spool is a bad one: it is told under the
+spool's number, and at the end the file of those that were passed over has each of them, and nothing else."""
 
 import contextlib
 import importlib.machinery
@@ -26,7 +27,24 @@ LIMITS = "--tries 100 --retry-every 1"
 IN_USE = "uecp: state in use: "
 SECONDS = 200  # after which no end is killed any more
 LEAST_GONE_ON = 5  # runs, or nothing was tried
-ALL_APPLIED, SOME_REFUSED, STOPPED = 0, 4, 3
+ALL_APPLIED, PASSED_OVER, SOME_REFUSED, STOPPED = 0, 1, 4, 3
+BAD_EACH = 20  # which line of the spool is a bad one
+
+
+def bad_line(number):
+    """The bad line of this number, and what is told of it."""
+    return f"pi C2O{number}", f"line {number}, column 4: expected four hexadecimal digits"
+
+
+def spool_lines(lines):
+    """The lines of a spool: these, with bad ones between; and the numbers of those."""
+    spool, bad = [], []
+    for line in lines:
+        if len(spool) % BAD_EACH == BAD_EACH - 1:
+            bad.append(len(spool) + 1)
+            spool.append(bad_line(bad[-1])[0])
+        spool.append(line)
+    return spool, bad
 
 
 def script(name):
@@ -82,7 +100,8 @@ class Spool(kept_state.Seed):
         self.server = Group(random.Random(f"server {number}"), sizes.kills, self.bytes_due)
         os.symlink(program, f"{folder}/uecp")
         with open(f"{folder}/spool", "w", encoding="utf-8") as spool:
-            spool.write("".join(f"{line}\n" for line, _ in self.pairs))
+            lines, self.bad = spool_lines(line for line, _ in self.pairs)
+            spool.write("".join(f"{line}\n" for line in lines))
         port = self.listener.getsockname()[1]
         options = f"--port {port} {LIMITS} --timeout {sizes.timeout} --window {self.window()}"
         self.script = spool_script().replace("--port 4000", options)
@@ -122,9 +141,10 @@ class Spool(kept_state.Seed):
             return status
         # the run before may not be gone yet as the script looks at the state, or as it begins
         is_early = status == STOPPED and not lines and len(said) == 1 and said[0].startswith(IN_USE)
-        assert is_early or status in (ALL_APPLIED, SOME_REFUSED, -signal.SIGKILL), f"status {status}, {lines[-1:]}, {said}"
-        assert is_early or all(NOTICE.fullmatch(line) for line in said), said
-        return ALL_APPLIED if status == SOME_REFUSED else status
+        assert is_early or status in (ALL_APPLIED, PASSED_OVER, SOME_REFUSED, -signal.SIGKILL), f"status {status}, {lines[-1:]}, {said}"
+        told_bad = [f"uecp: {bad_line(number)[1]}\n" for number in self.bad]
+        assert is_early or all(NOTICE.fullmatch(line) or line in told_bad for line in said), said
+        return ALL_APPLIED if status in (PASSED_OVER, SOME_REFUSED) else status
 
     def hear(self, before, lines):
         """Judges the newest line of a run."""
@@ -146,9 +166,14 @@ class Spool(kept_state.Seed):
     def finish(self):
         super().finish()
         assert self.went_on >= min(LEAST_GONE_ON, self.sizes.kills // 10), f"only {self.went_on} runs went on from messages that were taken"
+        with open(f"{self.folder}/passed", encoding="utf-8") as passed:
+            self.kept = passed.readlines()
+        records = [f"{number}\t{bad_line(number)[1]}\t{bad_line(number)[0]}\n" for number in self.bad]
+        assert set(self.kept) == set(records), f"{set(self.kept) ^ set(records)} of the lines that were passed over"
 
     def said(self):
-        return f"{self.count_runs} runs of the script, {self.went_on} of them behind the first message, {super().said()}"
+        kept = f"{len(self.bad)} lines passed over, {len(self.kept) - len(self.bad)} of them again"
+        return f"{self.count_runs} runs of the script, {self.went_on} of them behind the first message, {kept}, {super().said()}"
 
 
 def try_seed(program, number, messages, kills):

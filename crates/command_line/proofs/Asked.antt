@@ -17,6 +17,7 @@ use Rattle.clap.proofs.OnLiterals.{clap_on_literals}
 use Rattle.commands.specs.declared.job.Job.{Job}
 use Rattle.commands.specs.declared.job.Job.TheVariants.{AnswerWith, ShowWith, MakeWith, LineWith, EncoderWith}
 use Rattle.commands.specs.declared.job.Job.TheVariants.{ServerWith, Send, Watch, State, Receive, Conformance, Page}
+use Rattle.commands.specs.declared.job.Job.TheVariants.{Quote, Phrases}
 use Rattle.commands.specs.Jobs.{in_full, in_short}
 use Rattle.command_line.specs.declared.command_name.CommandName.{CommandName}
 use Rattle.command_line.specs.declared.command_name.CommandName.TheVariants as command
@@ -27,7 +28,7 @@ use Rattle.command_line.specs.Usages.{SaysError}
 use Rattle.command_line.specs.CommandLine.{AreOptions, Asks, IsFullOf, IsMaybe, IsOption, IsPlace}
 use Rattle.command_line.specs.CommandLine.{RefusesLine, RefusesList, RefusesJobOf, RefusesWords, command_word}
 use Rattle.command_line.specs.CommandLine.{services_text, uecp_app}
-use Rattle.command_line.specs.TitleLines.{RefusesTitles}
+use Rattle.command_line.specs.TitleLines.{RefusesLines}
 use Rattle.command_line.proofs.Helps.{one_named}
 
 -- ---- by what clap's clauses say of a parse
@@ -78,7 +79,7 @@ asks words m name rows full asked e f met none is short = record {
   is_short = short;
 }
 
--- the words with no fault name one of the twelve commands
+-- the words with no fault name one of the fourteen commands
 pub no_other : (words : List Text) (m : ArgMatches) (word : Text) → Some word ≡ subcommand_name_of m
     → subcommand_rows_of m ≡ subcommand_of uecp_app words → fault_of uecp_app words ≡ []
     → ((command : CommandName) → command_word command ≡ word → ⊥) → ⊥
@@ -123,20 +124,20 @@ refuses_line words m name rows why e f met is_line (inr (error, is, kind, no_for
     ))
 
 -- what the matches of `send` ask for was refused
-refuses_titles : (words : List Text) (m : ArgMatches) (rows : List Row) (why : Usage)
+refuses_lines : (words : List Text) (m : ArgMatches) (rows : List Row) (why : Usage)
     → Some (codes "send") ≡ subcommand_name_of m → Some rows ≡ option_map (λ p. p.1) (subcommand_rows_of m)
-    → subcommand_rows_of m ≡ subcommand_of uecp_app words → RefusesTitles rows why → RefusesWords words why
-refuses_titles words m rows why e f met (inl out) = subst (RefusesWords words) (sym out) tt
-refuses_titles words m rows (Refused error) e f met (inr (kind, no_titles)) = inr (
+    → subcommand_rows_of m ≡ subcommand_of uecp_app words → RefusesLines rows why → RefusesWords words why
+refuses_lines words m rows why e f met (inl out) = subst (RefusesWords words) (sym out) tt
+refuses_lines words m rows (Refused error) e f met (inr (kind, no_lines)) = inr (
   kind,
   inr (record {
     rows = rows;
     command = sym met ∙ both_met (out-ArgMatches m).subcommand (codes "send") rows e f;
-    no_titles = no_titles;
+    no_lines = no_lines;
   }),
 )
-refuses_titles words m rows NotAList e f met (inr (never, no_titles)) = absurd never
-refuses_titles words m rows OutOfMemory e f met (inr (memory, no_titles)) = tt
+refuses_lines words m rows NotAList e f met (inr (never, no_lines)) = absurd never
+refuses_lines words m rows OutOfMemory e f met (inr (memory, no_lines)) = tt
 
 -- what the matches of a command ask for was refused
 no_memory : (words : List Text) (why : Usage) → why ≡ OutOfMemory → RefusesWords words why
@@ -154,12 +155,14 @@ refuses_job words m command.Line rows why e f met refused =
 refuses_job words m command.Show rows why e f met refused = no_memory words why refused
 refuses_job words m command.Make rows why e f met refused = no_memory words why refused
 refuses_job words m command.Server rows why e f met refused = no_memory words why refused
-refuses_job words m command.Send rows why e f met refused = refuses_titles words m rows why e f met refused
+refuses_job words m command.Send rows why e f met refused = refuses_lines words m rows why e f met refused
 refuses_job words m command.Watch rows why e f met refused = no_memory words why refused
 refuses_job words m command.State rows why e f met refused = no_memory words why refused
 refuses_job words m command.Receive rows why e f met refused = no_memory words why refused
 refuses_job words m command.Conformance rows why e f met refused = no_memory words why refused
 refuses_job words m command.Page rows why e f met refused = no_memory words why refused
+refuses_job words m command.Quote rows why e f met refused = no_memory words why refused
+refuses_job words m command.Phrases rows why e f met refused = no_memory words why refused
 
 says_why : (words : List Text) (e : Error) (why : Usage) → HasKind (fault_of uecp_app words) e → SaysError e why
     → RefusesWords words why
@@ -229,6 +232,7 @@ full_in_range name rows (Send o) is = let has = is.1 in (
   in_range _ _ _ _ has.is_retry_every,
   in_range _ _ _ _ has.is_give_up,
   in_range _ _ _ _ has.is_silent,
+  in_range _ _ _ _ has.is_from_line,
 )
 full_in_range name rows (Conformance o) is = let has = is.1 in (
   place_in_range rows o.site o.encoder has.is_place,
@@ -242,6 +246,8 @@ full_in_range name rows (Watch o) is = tt
 full_in_range name rows (State file) is = tt
 full_in_range name rows (Receive o) is = tt
 full_in_range name rows (Page o) is = tt
+full_in_range name rows Quote is = tt
+full_in_range name rows Phrases is = tt
 full_in_range name rows full is = absurd is
 
 -- so are those of the job in few words

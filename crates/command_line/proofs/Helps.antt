@@ -1,4 +1,4 @@
--- Words with no fault name one of the program's nine commands.
+-- Words with no fault name one of the program's commands.
 use Rattle.std.proofs.Common.{◌≡◌, ◌⊎◌, ℕ, Bool, true, false, not, ◌&&◌, ◌||◌, cond, List, [], ◌∷◌, refl, ap, sym}
 use Rattle.std.proofs.Common.{subst, inl, inr, codes, fold, get_or}
 use Rattle.std.specs.Prelude.{Option, Some, None, find, is_some, option_map}
@@ -125,41 +125,58 @@ walk_stop s names (word ∷ rest) w off e f =
     (then_none (turn_fault s names w word) (walk_fault s names (walked s.rules names w word) rest) f)
 
 -- ---- the program's commands
-pick : {X : Type 0} (a b c d e f g i j k l m h s : X) (t u v w x y z r q p o n end : Bool) → end ≡ false
-    → cond t (Some a) (cond u (Some b) (cond v (Some c) (cond w (Some d)
-    (cond x (Some e) (cond y (Some f) (cond z (Some g) (cond r (Some i)
-    (cond q (Some j) (cond p (Some k) (cond o (Some l) (cond n (Some m)
-    (cond end (Some h) None)))))))))))) ≡ Some s
-    → (s ≡ a) ⊎ ((s ≡ b) ⊎ ((s ≡ c) ⊎ ((s ≡ d) ⊎ ((s ≡ e)
-    ⊎ ((s ≡ f) ⊎ ((s ≡ g) ⊎ ((s ≡ i) ⊎ ((s ≡ j) ⊎ ((s ≡ k)
-    ⊎ ((s ≡ l) ⊎ ((s ≡ m))))))))))))
-pick a b c d e f g i j k l m h s true u v w x y z r q p o n end off is =
+pick : {X : Type 0} (a1 a2 a3 a4 a5 a6 a7 a8 a9 a10 a11 a12 a13 a14 h s : X) (t1 t2 t3 t4 t5 t6 t7 t8 t9 t10 t11 t12
+    t13 t14 end : Bool) → end ≡ false → cond t1 (Some a1) (cond t2 (Some a2) (cond t3 (Some a3) (cond t4 (Some a4)
+    (cond t5 (Some a5) (cond t6 (Some a6) (cond t7 (Some a7) (cond t8 (Some a8) (cond t9 (Some a9) (cond t10 (Some
+    a10) (cond t11 (Some a11) (cond t12 (Some a12) (cond t13 (Some a13) (cond t14 (Some a14) (cond end (Some h)
+    None)))))))))))))) ≡ Some s → (s ≡ a1) ⊎ ((s ≡ a2) ⊎ ((s ≡ a3) ⊎ ((s ≡ a4) ⊎ ((s ≡ a5) ⊎ ((s ≡ a6) ⊎ ((s ≡ a7) ⊎
+    ((s ≡ a8) ⊎ ((s ≡ a9) ⊎ ((s ≡ a10) ⊎ ((s ≡ a11) ⊎ ((s ≡ a12) ⊎ ((s ≡ a13) ⊎ (s ≡ a14)))))))))))))
+pick a1 a2 a3 a4 a5 a6 a7 a8 a9 a10 a11 a12 a13 a14 h s true t2 t3 t4 t5 t6 t7 t8 t9 t10 t11 t12 t13 t14 end off is =
     inl cc
-pick a b c d e f g i j k l m h s false true v w x y z r q p o n end off is =
+pick a1 a2 a3 a4 a5 a6 a7 a8 a9 a10 a11 a12 a13 a14 h s false true t3 t4 t5 t6 t7 t8 t9 t10 t11 t12 t13 t14 end off is
+    =
     inr (inl cc)
-pick a b c d e f g i j k l m h s false false true w x y z r q p o n end off is =
+pick a1 a2 a3 a4 a5 a6 a7 a8 a9 a10 a11 a12 a13 a14 h s false false true t4 t5 t6 t7 t8 t9 t10 t11 t12 t13 t14 end off
+    is =
     inr (inr (inl cc))
-pick a b c d e f g i j k l m h s false false false true x y z r q p o n end off is =
+pick a1 a2 a3 a4 a5 a6 a7 a8 a9 a10 a11 a12 a13 a14 h s false false false true t5 t6 t7 t8 t9 t10 t11 t12 t13 t14 end
+    off is =
     inr (inr (inr (inl cc)))
-pick a b c d e f g i j k l m h s false false false false true y z r q p o n end off is =
+pick a1 a2 a3 a4 a5 a6 a7 a8 a9 a10 a11 a12 a13 a14 h s false false false false true t6 t7 t8 t9 t10 t11 t12 t13 t14
+    end off is =
     inr (inr (inr (inr (inl cc))))
-pick a b c d e f g i j k l m h s false false false false false true z r q p o n end off is =
+pick a1 a2 a3 a4 a5 a6 a7 a8 a9 a10 a11 a12 a13 a14 h s false false false false false true t7 t8 t9 t10 t11 t12 t13
+    t14 end off is =
     inr (inr (inr (inr (inr (inl cc)))))
-pick a b c d e f g i j k l m h s false false false false false false true r q p o n end off is =
+pick a1 a2 a3 a4 a5 a6 a7 a8 a9 a10 a11 a12 a13 a14 h s false false false false false false true t8 t9 t10 t11 t12 t13
+    t14 end off is =
     inr (inr (inr (inr (inr (inr (inl cc))))))
-pick a b c d e f g i j k l m h s false false false false false false false true q p o n end off is =
+pick a1 a2 a3 a4 a5 a6 a7 a8 a9 a10 a11 a12 a13 a14 h s false false false false false false false true t9 t10 t11 t12
+    t13 t14 end off is =
     inr (inr (inr (inr (inr (inr (inr (inl cc)))))))
-pick a b c d e f g i j k l m h s false false false false false false false false true p o n end off is =
+pick a1 a2 a3 a4 a5 a6 a7 a8 a9 a10 a11 a12 a13 a14 h s false false false false false false false false true t10 t11
+    t12 t13 t14 end off is =
     inr (inr (inr (inr (inr (inr (inr (inr (inl cc))))))))
-pick a b c d e f g i j k l m h s false false false false false false false false false true o n end off is =
+pick a1 a2 a3 a4 a5 a6 a7 a8 a9 a10 a11 a12 a13 a14 h s false false false false false false false false false true t11
+    t12 t13 t14 end off is =
     inr (inr (inr (inr (inr (inr (inr (inr (inr (inl cc)))))))))
-pick a b c d e f g i j k l m h s false false false false false false false false false false true n end off is =
+pick a1 a2 a3 a4 a5 a6 a7 a8 a9 a10 a11 a12 a13 a14 h s false false false false false false false false false false
+    true t12 t13 t14 end off is =
     inr (inr (inr (inr (inr (inr (inr (inr (inr (inr (inl cc))))))))))
-pick a b c d e f g i j k l m h s false false false false false false false false false false false true end off is =
-    inr (inr (inr (inr (inr (inr (inr (inr (inr (inr (inr cc))))))))))
-pick a b c d e f g i j k l m h s false false false false false false false false false false false false true off is =
+pick a1 a2 a3 a4 a5 a6 a7 a8 a9 a10 a11 a12 a13 a14 h s false false false false false false false false false false
+    false true t13 t14 end off is =
+    inr (inr (inr (inr (inr (inr (inr (inr (inr (inr (inr (inl cc)))))))))))
+pick a1 a2 a3 a4 a5 a6 a7 a8 a9 a10 a11 a12 a13 a14 h s false false false false false false false false false false
+    false false true t14 end off is =
+    inr (inr (inr (inr (inr (inr (inr (inr (inr (inr (inr (inr (inl cc))))))))))))
+pick a1 a2 a3 a4 a5 a6 a7 a8 a9 a10 a11 a12 a13 a14 h s false false false false false false false false false false
+    false false false true end off is =
+    inr (inr (inr (inr (inr (inr (inr (inr (inr (inr (inr (inr (inr (cc)))))))))))))
+pick a1 a2 a3 a4 a5 a6 a7 a8 a9 a10 a11 a12 a13 a14 h s false false false false false false false false false false
+    false false false false true off is =
     cc
-pick a b c d e f g i j k l m h s false false false false false false false false false false false false false off is =
+pick a1 a2 a3 a4 a5 a6 a7 a8 a9 a10 a11 a12 a13 a14 h s false false false false false false false false false false
+    false false false false false off is =
     cc
 
 not_help : (name : Text) → bytes_eq name (codes "help") ≡ false → bytes_eq (codes "help") name ≡ false
@@ -173,26 +190,24 @@ not_help name e = go (bytes_eq (codes "help") name) refl
         subst (λ x. bytes_eq x (codes "help") ≡ false) (sym same) e in
         cc
 
-pick_in : {X : Type 0} (test : X → Bool) (a b c d e f g i j k l m h s : X) → test h ≡ false
-    → find test (a ∷ b ∷ c ∷ d ∷ e ∷ f ∷ g ∷ i ∷ j ∷ k ∷ l ∷ m ∷ h ∷ []) ≡ Some s
-    → (s ≡ a) ⊎ ((s ≡ b) ⊎ ((s ≡ c) ⊎ ((s ≡ d) ⊎ ((s ≡ e)
-    ⊎ ((s ≡ f) ⊎ ((s ≡ g) ⊎ ((s ≡ i) ⊎ ((s ≡ j) ⊎ ((s ≡ k)
-    ⊎ ((s ≡ l) ⊎ ((s ≡ m))))))))))))
-pick_in test a b c d e f g i j k l m h s off is =
-    pick a b c d e f g i j k l m h s (test a) (test b) (test c) (test d) (test e) (test f)
-    (test g) (test i) (test j) (test k) (test l) (test m) (test h) off is
+pick_in : {X : Type 0} (test : X → Bool) (a1 a2 a3 a4 a5 a6 a7 a8 a9 a10 a11 a12 a13 a14 h s : X) → test h ≡ false →
+    find test (a1 ∷ a2 ∷ a3 ∷ a4 ∷ a5 ∷ a6 ∷ a7 ∷ a8 ∷ a9 ∷ a10 ∷ a11 ∷ a12 ∷ a13 ∷ a14 ∷ h ∷ []) ≡ Some s → (s ≡ a1)
+    ⊎ ((s ≡ a2) ⊎ ((s ≡ a3) ⊎ ((s ≡ a4) ⊎ ((s ≡ a5) ⊎ ((s ≡ a6) ⊎ ((s ≡ a7) ⊎ ((s ≡ a8) ⊎ ((s ≡ a9) ⊎ ((s ≡ a10) ⊎ ((s
+    ≡ a11) ⊎ ((s ≡ a12) ⊎ ((s ≡ a13) ⊎ (s ≡ a14)))))))))))))
+pick_in test a1 a2 a3 a4 a5 a6 a7 a8 a9 a10 a11 a12 a13 a14 h s off is = pick a1 a2 a3 a4 a5 a6 a7 a8 a9 a10 a11 a12
+    a13 a14 h s (test a1) (test a2) (test a3) (test a4) (test a5) (test a6) (test a7) (test a8) (test a9) (test a10)
+    (test a11) (test a12) (test a13) (test a14) (test h) off is
 
 abbrev place : ℕ → Shape
 place i = get_or (built uecp_app).subs i help_shape
 
--- the name is one of the twelve
+-- the name is one of the fourteen
 abbrev pub IsCommand : Text → Type 0
 IsCommand name = (command : CommandName) × (name ≡ command_word command)
 
-name_of : (s : Shape) → (s ≡ place 0) ⊎ ((s ≡ place 1) ⊎ ((s ≡ place 2) ⊎ ((s ≡ place 3) ⊎ ((s ≡ place 4)
-    ⊎ ((s ≡ place 5) ⊎ ((s ≡ place 6) ⊎ ((s ≡ place 7) ⊎ ((s ≡ place 8) ⊎ ((s ≡ place 9)
-    ⊎ ((s ≡ place 10) ⊎ ((s ≡ place 11))))))))))))
-    → IsCommand s.name
+name_of : (s : Shape) → (s ≡ place 0) ⊎ ((s ≡ place 1) ⊎ ((s ≡ place 2) ⊎ ((s ≡ place 3) ⊎ ((s ≡ place 4) ⊎ ((s ≡
+    place 5) ⊎ ((s ≡ place 6) ⊎ ((s ≡ place 7) ⊎ ((s ≡ place 8) ⊎ ((s ≡ place 9) ⊎ ((s ≡ place 10) ⊎ ((s ≡ place 11) ⊎
+    ((s ≡ place 12) ⊎ (s ≡ place 13))))))))))))) → IsCommand s.name
 name_of s h = elim h [
   | inl e ↦ (command.Answer, ap (λ (x : Shape). x.name) e)
   | inr (inl e) ↦ (command.Show, ap (λ (x : Shape). x.name) e)
@@ -208,7 +223,18 @@ name_of s h = elim h [
     command.Conformance,
     ap (λ (x : Shape). x.name) e,
   )
-  | inr (inr (inr (inr (inr (inr (inr (inr (inr (inr (inr e)))))))))) ↦ (command.Page, ap (λ (x : Shape). x.name) e)
+  | inr (inr (inr (inr (inr (inr (inr (inr (inr (inr (inr (inl e))))))))))) ↦ (
+    command.Page,
+    ap (λ (x : Shape). x.name) e,
+  )
+  | inr (inr (inr (inr (inr (inr (inr (inr (inr (inr (inr (inr (inl e)))))))))))) ↦ (
+    command.Quote,
+    ap (λ (x : Shape). x.name) e,
+  )
+  | inr (inr (inr (inr (inr (inr (inr (inr (inr (inr (inr (inr (inr (e))))))))))))) ↦ (
+    command.Phrases,
+    ap (λ (x : Shape). x.name) e,
+  )
 ]
 
 entered_one : (stop : Option (Text × List Text)) → is_some (entered (built uecp_app) stop) ≡ true → is_help stop ≡ false
@@ -224,8 +250,8 @@ entered_one (Some p) has off = go (find (λ s. answers_to p.0 (label_of s)) (bui
     go (Some s) is has = (
       rows_at s p.1,
       ap (option_map (λ (x : Shape). rows_at x p.1)) is,
-      name_of s (pick_in (λ x. answers_to p.0 (label_of x)) (place 0) (place 1) (place 2) (place 3) (place 4) (place 5)
-          (place 6) (place 7) (place 8) (place 9) (place 10) (place 11) (place 12) s
+      name_of s (pick_in (λ x. answers_to p.0 (label_of x)) (place 0) (place 1) (place 2) (place 3) (place 4) (place
+          5) (place 6) (place 7) (place 8) (place 9) (place 10) (place 11) (place 12) (place 13) (place 14) s
           (ap (λ b. b || false) (not_help p.0 off)) is),
     )
 

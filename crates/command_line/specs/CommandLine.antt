@@ -14,11 +14,12 @@ use Rattle.clap.specs.Values.{kind_of}
 use Rattle.clap.specs.declared.error.Error.{Error}
 use Rattle.clap.specs.declared.error.kind.ErrorKind.TheVariants.{InvalidValue}
 use Rattle.clap.specs.declared.builder.action.ArgAction.TheVariants.{Set, SetTrue}
-use Rattle.clap.specs.declared.builder.value_parser.ValueParser.TheVariants.{Signed}
+use Rattle.clap.specs.declared.builder.value_parser.ValueParser.TheVariants.{NonEmptyString, Signed}
 use Rattle.commands.specs.Host.{NamesHost}
 use Rattle.commands.specs.declared.job.Job.{Job}
 use Rattle.commands.specs.declared.job.Job.TheVariants.{AnswerWith, ShowWith, MakeWith, LineWith, EncoderWith}
 use Rattle.commands.specs.declared.job.Job.TheVariants.{ServerWith, Send, Watch, State, Receive, Conformance, Page}
+use Rattle.commands.specs.declared.job.Job.TheVariants.{Quote, Phrases}
 use Rattle.commands.specs.Jobs.{in_short}
 use Rattle.commands.specs.declared.answer_options.AnswerOptions.{AnswerOptions}
 use Rattle.commands.specs.declared.conformance_options.ConformanceOptions.{ConformanceOptions}
@@ -37,7 +38,7 @@ use Rattle.output_forms.specs.declared.form.Form.TheVariants.{Lines, Words, Json
 use Rattle.rds_text.specs.declared.programme_type.Region.{Region}
 use Rattle.rds_text.specs.declared.programme_type.Region.TheVariants.{Europe, NorthAmerica}
 pub use Rattle.command_line.specs.OptionTexts.{IsFlag, word_text}
-use Rattle.command_line.specs.TitleLines.{HasNoTitles, IsTitles, RefusesTitles}
+use Rattle.command_line.specs.TitleLines.{HasNoTitles, IsPassOver, IsTitles, PassesOverNone, RefusesLines}
 use Rattle.command_line.specs.declared.numbers.NumberOption.{NumberOption}
 use Rattle.command_line.specs.declared.command_name.CommandName.{CommandName}
 use Rattle.command_line.specs.declared.command_name.CommandName.TheVariants as command
@@ -184,6 +185,8 @@ pub record IsLive (rows : List Row) (job : SendOptions) : Type 0 where
   pub is_titles : IsTitles rows job.titles
   pub is_form : IsToldIn rows job.form
   pub is_strict : IsFlag (one_of (codes "strict") rows) job.strict
+  pub is_pass_over : IsPassOver rows (option_map string_bytes job.pass_over)
+  pub is_from_line : IsOption (one_of (codes "from-line") rows) 1 4294967295 job.from_line
   pub is_join : IsFlag (one_of (codes "join") rows) job.join
   pub is_rejoin : IsRejoin rows job.rejoin
   pub is_state : option_map string_bytes job.state ≡ first_of (codes "state") rows
@@ -276,6 +279,8 @@ IsFullOf name rows (State file) = (name ≡ codes "state") × (string_bytes file
 IsFullOf name rows (Receive o) = (name ≡ codes "receive") × IsReceive rows o
 IsFullOf name rows (Conformance o) = (name ≡ codes "conformance") × IsConformance rows o
 IsFullOf name rows (Page o) = (name ≡ codes "page") × IsPage rows o
+IsFullOf name rows Quote = name ≡ codes "quote"
+IsFullOf name rows Phrases = name ≡ codes "phrases"
 IsFullOf name rows job = ⊥
 
 -- The word for a command.
@@ -292,6 +297,8 @@ command_word command.State = codes "state"
 command_word command.Receive = codes "receive"
 command_word command.Conformance = codes "conformance"
 command_word command.Page = codes "page"
+command_word command.Quote = codes "quote"
+command_word command.Phrases = codes "phrases"
 
 -- Why what the matches of this command ask for was refused: it has a list of services that is none, a ladder's form
 -- that is none, or lines that are neither phrases nor titles. Or there was no memory.
@@ -299,7 +306,7 @@ abbrev pub RefusesJobOf : CommandName → (rows : List Row) → Usage → Type 0
 RefusesJobOf command.Answer rows why = RefusesList (services_text rows) why
 RefusesJobOf command.Encoder rows why = RefusesList (services_text rows) why
 RefusesJobOf command.Line rows why = RefusesLine rows why
-RefusesJobOf command.Send rows why = RefusesTitles rows why
+RefusesJobOf command.Send rows why = RefusesLines rows why
 RefusesJobOf other rows why = why ≡ OutOfMemory
 
 -- ---- the command line that the program takes
@@ -333,13 +340,21 @@ rule_for option = number_option option.name.now option.least option.most (option
 abbrev pub maybe_word : (name : List ℕ) → Rule
 maybe_word name = record (word_option name None) { required = false }
 
+-- An option with a word that may be left out, and is not empty.
+abbrev pub filled_word : (name : List ℕ) → Rule
+filled_word name = record (maybe_word name) { parser = Some NonEmptyString }
+
+-- An option with a word that is not empty, this one where it is not given.
+abbrev pub filled_option : (name default : List ℕ) → Rule
+filled_option name default = record (word_option name (Some default)) { parser = Some NonEmptyString }
+
 -- An option with a number that may be left out.
 abbrev pub maybe_number : (name : List ℕ) → (least greatest : ℕ) → Rule
 maybe_number name least greatest = record (number_option name least greatest None) { required = false }
 
 -- The option with the file for the state of an end, which may be left out.
 abbrev pub state_option : Rule
-state_option = maybe_word (codes "state")
+state_option = filled_word (codes "state")
 
 -- The option with the name of a line, which may be left out.
 abbrev pub name_option : Rule
@@ -347,7 +362,7 @@ name_option = maybe_word (codes "name")
 
 -- The option with the file of a station's lines, which may be left out.
 abbrev pub station_option : Rule
-station_option = maybe_word (codes "station")
+station_option = filled_word (codes "station")
 
 -- The file to look at, which has to be named.
 abbrev pub file_argument : Rule
@@ -417,6 +432,14 @@ abbrev pub paging_command : Shape
 paging_command = command_with (codes "page")
     (maybe_word (codes "listen") ∷ maybe_number (codes "port") 1 65535 ∷ maybe_number (codes "stale") 1 86400 ∷ [])
 
+-- The command `quote`.
+abbrev pub quoting_command : Shape
+quoting_command = command_with (codes "quote") []
+
+-- The command `phrases`.
+abbrev pub telling_command : Shape
+telling_command = command_with (codes "phrases") []
+
 -- Where the encoder listens whose rules are tried, which has to be named.
 abbrev pub place_argument : Rule
 place_argument = record (new_rule (codes "place")) { action = Some Set; value_names = 1; required = true }
@@ -454,7 +477,7 @@ abbrev pub listening_command : Shape
 listening_command =
     command_with (codes "encoder")
     (encoder_options ++ serving_options ++ form_flags ++ name_option ∷ flag (codes "no-time")
-    ∷ maybe_word (codes "faults") ∷ number_option (codes "seed") 0 1000000000 (Some (codes "0"))
+    ∷ filled_word (codes "faults") ∷ number_option (codes "seed") 0 1000000000 (Some (codes "0"))
     ∷ maybe_number (codes "air") 1 65535 ∷ flag (codes "air-bits") ∷ state_option ∷ [])
 
 -- The options of a server's bounds.
@@ -468,13 +491,13 @@ bound_options =
 
 -- The command `server`.
 abbrev pub sending_command : Shape
-sending_command = command_with (codes "server") (place_options ++ word_option (codes "host") (Some (codes "127.0.0.1"))
+sending_command = command_with (codes "server") (place_options ++ filled_option (codes "host") (codes "127.0.0.1")
     ∷ port_option ∷ bound_options ++ flag (codes "join") ∷ flag (codes "reconnect-silent") ∷ flag (codes "verbose")
     ∷ state_option ∷ [])
 
 -- The command `send`.
 abbrev pub live_command : Shape
-live_command = command_with (codes "send") (place_options ++ word_option (codes "host") (Some (codes "127.0.0.1"))
+live_command = command_with (codes "send") (place_options ++ filled_option (codes "host") (codes "127.0.0.1")
     ∷ port_option ∷ number_option (codes "tries") 1 100 (Some (codes "3"))
     ∷ number_option (codes "timeout") 1 60000 (Some (codes "1000"))
     ∷ number_option (codes "turns") 1 1000 (Some (codes "16"))
@@ -482,8 +505,9 @@ live_command = command_with (codes "send") (place_options ++ word_option (codes 
     ∷ number_option (codes "retry-every") 1 3600 (Some (codes "30"))
     ∷ number_option (codes "give-up") 0 1000000 (Some (codes "0"))
     ∷ number_option (codes "silent") 1 86400 (Some (codes "60"))
-    ∷ flag (codes "rbds") ∷ flag (codes "json") ∷ name_option ∷ flag (codes "strict") ∷ flag (codes "join")
-    ∷ flag (codes "rejoin")
+    ∷ flag (codes "rbds") ∷ flag (codes "json") ∷ name_option ∷ flag (codes "strict")
+    ∷ maybe_word (codes "pass-over") ∷ number_option (codes "from-line") 1 4294967295 (Some (codes "1"))
+    ∷ flag (codes "join") ∷ flag (codes "rejoin")
     ∷ state_option ∷ station_option ∷ word_option (codes "input") (Some (codes "phrases"))
     ∷ maybe_word (codes "prefix") ∷ maybe_word (codes "service") ∷ flag (codes "fit") ∷ [])
 
@@ -494,7 +518,7 @@ looking_command = command_with (codes "state") (file_argument ∷ [])
 -- A command that takes its options from a file too: the file may be named, and it may be looked at alone.
 abbrev pub configurable : Shape → Shape
 configurable shape = record shape {
-  rules = (shape.rules ++ maybe_word (codes "config") ∷ []) ++ flag (codes "check-config") ∷ [];
+  rules = (shape.rules ++ filled_word (codes "config") ∷ []) ++ flag (codes "check-config") ∷ [];
 }
 
 -- A program with these commands too, each of which takes a file of options.
@@ -502,13 +526,14 @@ abbrev pub with_commands : App → List Shape → App
 with_commands app [] = app
 with_commands app (shape ∷ shapes) = with_commands (with_subcommand app (configurable shape)) shapes
 
--- The program: it has a version, and one of twelve commands has to be named, each of which takes a file of options.
+-- The program: it has a version, and one of fourteen commands has to be named, each of which takes a file of options.
 abbrev pub uecp_app : App
 uecp_app = record {
   top = record (new_shape (codes "uecp")) { is_leaf = false; has_version = true; subcommand_required = true };
   subs = map configurable (answering_command ∷ showing_command ∷ making_command
       ∷ playing_command ∷ listening_command ∷ sending_command ∷ live_command ∷ watching_command
-      ∷ looking_command ∷ receiving_command ∷ trying_command ∷ paging_command ∷ []);
+      ∷ looking_command ∷ receiving_command ∷ trying_command ∷ paging_command ∷ quoting_command
+      ∷ telling_command ∷ []);
 }
 
 -- The words have no fault, and ask for this: they name its command, and give its options. It is the job with those that
@@ -536,11 +561,11 @@ pub record GivesNoForm (words : List (List ℕ)) : Type 0 where
   pub command : subcommand_of uecp_app words ≡ Some (codes "line", rows)
   pub no_form : HasNoForm rows
 
--- The words ask for lines that are neither phrases nor titles.
+-- The words ask for lines that are neither phrases nor titles, or that would be passed over and end the run.
 pub record GivesNoTitles (words : List (List ℕ)) : Type 0 where
   pub rows : List Row
   pub command : subcommand_of uecp_app words ≡ Some (codes "send", rows)
-  pub no_titles : HasNoTitles rows
+  pub no_lines : HasNoTitles rows ⊎ PassesOverNone rows
 
 -- The words give a word that is none of those that its option has: a ladder's form, or what lines are.
 abbrev pub GivesNoChoice : (words : List (List ℕ)) → Type 0

@@ -25,7 +25,7 @@ IsSetupInRange site encoder sets = IsPlaceInRange site encoder × Lies 1 8 sets
 abbrev pub IsLiveInRange : SendOptions → Type 0
 IsLiveInRange job = IsPlaceInRange job.site job.encoder × Lies 1 65535 job.port × Lies 1 100 job.tries
     × Lies 1 60000 job.timeout × Lies 1 1000 job.turns × Lies 1 8 job.window × Lies 1 3600 job.retry_every
-    × Lies 0 1000000 job.give_up × Lies 1 86400 job.silent
+    × Lies 0 1000000 job.give_up × Lies 1 86400 job.silent × Lies 1 4294967295 job.from_line
 
 -- Each number of what an encoder does.
 abbrev pub IsEncoderInRange : EncoderOptions → Type 0

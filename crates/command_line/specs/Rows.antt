@@ -6,7 +6,8 @@ use Rattle.clap.specs.declared.builder.action.ArgAction.TheVariants.{Set}
 use Rattle.command_line.specs.declared.option_row.OptionRow.{OptionRow}
 use Rattle.command_line.specs.declared.option_row.OptionRow.TheVariants as row
 use Rattle.command_line.specs.declared.command_row.CommandRow.{CommandRow}
-use Rattle.command_line.specs.CommandLine.{command_with, flag, maybe_word, rule_for, word_option}
+use Rattle.command_line.specs.CommandLine.{command_with, filled_option, filled_word, flag, maybe_word, rule_for}
+use Rattle.command_line.specs.CommandLine.{word_option}
 
 -- An argument with a word, which has to be given.
 abbrev pub argument_rule : (name : List ℕ) → Rule
@@ -18,6 +19,8 @@ rule_of_row (row.Flag name help) = flag name.now
 rule_of_row (row.Number option) = rule_for option
 rule_of_row (row.MaybeNumber option) = record (rule_for option) { required = false }
 rule_of_row (row.MaybeWord name value help) = maybe_word name.now
+rule_of_row (row.MaybeFile name help) = filled_word name.now
+rule_of_row (row.FilledOr name value help default) = filled_option name.now default.now
 rule_of_row (row.WordOr name value help default) = word_option name.now (Some default.now)
 rule_of_row (row.MaybeWordOr name value help missing) = record (maybe_word name.now) {
   range = Some (record { start_inclusive = 0; end_inclusive = 1 });

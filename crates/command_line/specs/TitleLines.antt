@@ -57,3 +57,24 @@ IsRefusal OutOfMemory = Unit {0}
 -- no memory.
 abbrev pub RefusesTitles : (rows : List Row) → Usage → Type 0
 RefusesTitles rows why = (why ≡ OutOfMemory) ⊎ (IsRefusal why × HasNoTitles rows)
+
+-- ---- Lines that are passed over.
+
+-- The file that is named for them, if one is; and then the run does not end at a line that is refused.
+abbrev pub IsPassOver : (rows : List Row) → (file : Option (List ℕ)) → Type 0
+IsPassOver rows file = (file ≡ first_of (codes "pass-over") rows)
+    × (is_some (first_of (codes "pass-over") rows) ≡ true → IsFlag (one_of (codes "strict") rows) false)
+
+-- A file is named for them, and the run is to end at a line that is refused.
+abbrev pub PassesOverNone : (rows : List Row) → Type 0
+PassesOverNone rows =
+    (is_some (first_of (codes "pass-over") rows) ≡ true) × IsFlag (one_of (codes "strict") rows) true
+
+-- So it was refused; or there was no memory.
+abbrev pub RefusesPassOver : (rows : List Row) → Usage → Type 0
+RefusesPassOver rows why = (why ≡ OutOfMemory) ⊎ (IsRefusal why × PassesOverNone rows)
+
+-- Why what the matches of the command `send` ask for was refused: its lines are no titles, and no phrases; or they
+-- would be passed over, and end the run. Or there was no memory.
+abbrev pub RefusesLines : (rows : List Row) → Usage → Type 0
+RefusesLines rows why = (why ≡ OutOfMemory) ⊎ (IsRefusal why × (HasNoTitles rows ⊎ PassesOverNone rows))

@@ -1,7 +1,7 @@
 //! The options of the program's commands, as clap takes them (profile).
 ghost use Rattle.std.specs.Prelude.{◌≡◌, false};
 ghost use Rattle.clap.specs.Words.{rule_of};
-ghost use Rattle.command_line.specs.CommandLine.{rule_for, flag, maybe_number, maybe_word};
+ghost use Rattle.command_line.specs.CommandLine.{rule_for, filled_word, flag, maybe_number, maybe_word};
 ghost use Rattle.command_line.specs.Rows.{argument_rule};
 
 use crate::numbers::NumberOption;
@@ -39,6 +39,14 @@ pub fn maybe_word<'a>(alloc: Global, option: &'a str, value: &'a str, help: &'a 
         .value_name(value)
         .help(help)
         .action(ArgAction::Set)
+}
+
+/// An option with a word that is not empty, and may be left out.
+pub fn filled_word<'a>(alloc: Global, option: &'a str, value: &'a str, help: &'a str) -> Arg<'a>
+    ensures rule { rule_of result ≡ filled_word option.now }
+    ensures own { result.global ≡ false }
+{
+    maybe_word(alloc, option, value, help).value_parser(ValueParser::NonEmptyString)
 }
 
 /// A flag.

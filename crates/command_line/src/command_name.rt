@@ -17,6 +17,8 @@ pub(crate) enum CommandName {
     Receive,
     Conformance,
     Page,
+    Quote,
+    Phrases,
 }
 
 impl CommandName {
@@ -38,6 +40,8 @@ impl CommandName {
             "receive" => Some(CommandName::Receive),
             "conformance" => Some(CommandName::Conformance),
             "page" => Some(CommandName::Page),
+            "quote" => Some(CommandName::Quote),
+            "phrases" => Some(CommandName::Phrases),
             _ => None,
         }
     }

@@ -6,15 +6,16 @@ ghost use Rattle.command_line.specs.Rows.{shape_of_row};
 use crate::command_row::CommandRow;
 use crate::command_table::{
     ANSWER_COMMAND, CONFORMANCE_COMMAND, ENCODER_COMMAND, LINE_COMMAND, MAKE_COMMAND, PAGE_COMMAND,
-    RECEIVE_COMMAND, SEND_COMMAND, SERVER_COMMAND, SHOW_COMMAND, STATE_COMMAND, WATCH_COMMAND,
+    PHRASES_COMMAND, QUOTE_COMMAND, RECEIVE_COMMAND, SEND_COMMAND, SERVER_COMMAND, SHOW_COMMAND,
+    STATE_COMMAND, WATCH_COMMAND,
 };
 
 /// The commands, in the order of `--help`.
-pub(crate) fn command_rows() -> [CommandRow; 12]
+pub(crate) fn command_rows() -> [CommandRow; 14]
     ensures { map shape_of_row result ≡ spec.answering_command ∷ spec.showing_command ∷ spec.making_command
         ∷ spec.playing_command ∷ spec.listening_command ∷ spec.sending_command ∷ spec.live_command
         ∷ spec.watching_command ∷ spec.looking_command ∷ spec.receiving_command ∷ spec.trying_command
-        ∷ spec.paging_command ∷ [] }
+        ∷ spec.paging_command ∷ spec.quoting_command ∷ spec.telling_command ∷ [] }
 {
     [
         answer_row(),
@@ -29,6 +30,8 @@ pub(crate) fn command_rows() -> [CommandRow; 12]
         receive_row(),
         conformance_row(),
         page_row(),
+        quote_row(),
+        phrases_row(),
     ]
 }
 
@@ -102,4 +105,16 @@ fn page_row() -> CommandRow
     ensures { shape_of_row result ≡ spec.paging_command }
 {
     PAGE_COMMAND
+}
+
+fn quote_row() -> CommandRow
+    ensures { shape_of_row result ≡ spec.quoting_command }
+{
+    QUOTE_COMMAND
+}
+
+fn phrases_row() -> CommandRow
+    ensures { shape_of_row result ≡ spec.telling_command }
+{
+    PHRASES_COMMAND
 }

@@ -2,11 +2,14 @@
 
 use crate::command_row::CommandRow;
 use crate::numbers::{
-    AIR_GROUPS, AIR_PORT, CASE_SILENT, CASE_TIMEOUT, CONNECTIONS, ENCODER, GIVE_UP, IDLE, LOG_WAIT,
-    PAGE_PORT, PORT, QUIET, RECONNECTS, RETRY_EVERY, SEED, SERVE_TURNS, SETS, SILENT, SITE, STALE,
-    TIMEOUT, TRIES, TRY_TURNS, WINDOW, YIELD,
+    AIR_GROUPS, AIR_PORT, CASE_SILENT, CASE_TIMEOUT, CONNECTIONS, ENCODER, FROM_LINE, GIVE_UP,
+    IDLE, LOG_WAIT, PAGE_PORT, PORT, QUIET, RECONNECTS, RETRY_EVERY, SEED, SERVE_TURNS, SETS,
+    SILENT, SITE, STALE, TIMEOUT, TRIES, TRY_TURNS, WINDOW, YIELD,
 };
 use crate::option_row::OptionRow;
+
+/// The name of the command whose help is the page that it writes.
+pub(crate) const PHRASES_NAME: &str = "phrases";
 
 /// The list of services of each data set.
 const SERVICES: OptionRow = OptionRow::WordOr(
@@ -45,7 +48,7 @@ const NAME: OptionRow = OptionRow::MaybeWord(
 );
 
 /// Where the encoder listens.
-const HOST: OptionRow = OptionRow::WordOr(
+const HOST: OptionRow = OptionRow::FilledOr(
     "host",
     "HOST",
     "Where the encoder listens, a name or an address",
@@ -61,17 +64,15 @@ const LADDER: OptionRow = OptionRow::MaybeWordOr(
 );
 
 /// The file for the state of an end.
-const STATE: OptionRow = OptionRow::MaybeWord(
+const STATE: OptionRow = OptionRow::MaybeFile(
     "state",
-    "FILE",
     "The file in which this end is kept, so that the next run goes on from it",
 );
 
 /// The options of a file of options, which each command has.
 pub(crate) const FILE_OPTIONS: &[OptionRow] = &[
-    OptionRow::MaybeWord(
+    OptionRow::MaybeFile(
         "config",
-        "FILE",
         "The file with options by their names, in TOML, as port = 4001; what the command line says goes first",
     ),
     OptionRow::Flag(
@@ -110,7 +111,7 @@ pub(crate) const SHOW_COMMAND: CommandRow = CommandRow {
 pub(crate) const MAKE_COMMAND: CommandRow = CommandRow {
     name: "make",
     about: "Write the frames of a frame script in hexadecimal, one a line",
-    after: "Lines: frame AAAA CC, then its elements: pi, ps, tatp, ms, pty, rt, select, group, ack, raw\nWith --words a line is a message: phrases between semicolons; frame AAAA CC names its address and counter\nExample: printf 'frame 0041 01\\npi 00 00 C201\\n' | uecp make",
+    after: "Lines: frame AAAA CC, then its elements: pi, ps, tatp, ms, pty, rt, select, group, ack, raw\nWith --words a line is a message: phrases between semicolons; frame AAAA CC names its address and counter\nThe phrases: uecp help phrases\nExample: printf 'frame 0041 01\\npi 00 00 C201\\n' | uecp make",
     options: &[WORDS, RBDS],
 };
 
@@ -169,9 +170,8 @@ pub(crate) const ENCODER_COMMAND: CommandRow = CommandRow {
         JSON,
         NAME,
         UNTIMED,
-        OptionRow::MaybeWord(
+        OptionRow::MaybeFile(
             "faults",
-            "FILE",
             "The file with the rules of a bad line, one a line, as lose reply 5..9",
         ),
         OptionRow::Number(SEED),
@@ -219,7 +219,7 @@ pub(crate) const SERVER_COMMAND: CommandRow = CommandRow {
 pub(crate) const SEND_COMMAND: CommandRow = CommandRow {
     name: "send",
     about: "Send messages in words, one a line, to an encoder as they come, for as long as they come",
-    after: "A line is phrases between semicolons. Each is answered by a line: its number, and applied, refused or unknown.\nApplied is on the air where nobody else sends to this encoder: it answers by the counter, also for another's messages.\nA connection that is lost is made again; standard error says so, with the time.\nExit status 4: the encoder refused a message, or did not tell whether it applied it.\nExample: uecp send --port 4001 --state studio.db",
+    after: "A line is phrases between semicolons. Each is answered by a line: its number, and applied, refused or unknown.\nApplied is on the air where nobody else sends to this encoder: it answers by the counter, also for another's messages.\nA connection that is lost is made again; standard error says so, with the time.\nExit status 4: the encoder refused a message, or did not tell whether it applied it.\nThe phrases: uecp help phrases\nExample: uecp send --port 4001 --state studio.db",
     options: &[
         OptionRow::Number(SITE),
         OptionRow::Number(ENCODER),
@@ -236,6 +236,12 @@ pub(crate) const SEND_COMMAND: CommandRow = CommandRow {
         JSON,
         NAME,
         OptionRow::Flag("strict", "End at a line that is refused"),
+        OptionRow::MaybeWord(
+            "pass-over",
+            "FILE",
+            "Keep each line that is refused at the end of this file before the next is taken; not with --strict",
+        ),
+        OptionRow::Number(FROM_LINE),
         OptionRow::Flag(
             "join",
             "Begin anew with an encoder that was joined before. With --state it gives up what waits",
@@ -245,9 +251,8 @@ pub(crate) const SEND_COMMAND: CommandRow = CommandRow {
             "Join an encoder anew that answers nothing, and tell what was outstanding as unknown",
         ),
         STATE,
-        OptionRow::MaybeWord(
+        OptionRow::MaybeFile(
             "station",
-            "FILE",
             "The file with the lines that make the station, sent behind each join; it asks for --rejoin too",
         ),
         OptionRow::WordOr(
@@ -355,4 +360,20 @@ pub(crate) const PAGE_COMMAND: CommandRow = CommandRow {
         OptionRow::MaybeNumber(PAGE_PORT),
         OptionRow::MaybeNumber(STALE),
     ],
+};
+
+/// The command `quote`.
+pub(crate) const QUOTE_COMMAND: CommandRow = CommandRow {
+    name: "quote",
+    about: "Write each line of text as a string for a phrase, whatever stands in it",
+    after: "A line that no string can be is refused, and nothing is written for it: a character is not in the RDS set, or it has more than 64.\nSpaces and # are text. An empty input is one empty line.\nExample: printf 'rt %s add\\n' \"$(printf '%s' \"$title\" | uecp quote)\"",
+    options: &[],
+};
+
+/// The command `phrases`, whose help is the page that it writes.
+pub(crate) const PHRASES_COMMAND: CommandRow = CommandRow {
+    name: PHRASES_NAME,
+    about: "Tell the phrases in which messages are said, an example each",
+    after: "",
+    options: &[],
 };

@@ -231,6 +231,15 @@ pub const SILENT: NumberOption = NumberOption {
     help: "After how many seconds on connections with no answer that is told, 1 to 86400",
 };
 
+/// The number of the first line that `send` reads.
+pub const FROM_LINE: NumberOption = NumberOption {
+    name: "from-line",
+    least: 1,
+    most: 4_294_967_295,
+    default: Some("1"),
+    help: "The number of the first line of the input, 1 to 4294967295: those of the lines are told from there on",
+};
+
 /// How many messages of `server` are on their way at once.
 pub const WINDOW: NumberOption = NumberOption {
     name: "window",

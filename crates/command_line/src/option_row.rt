@@ -3,7 +3,7 @@ ghost use Rattle.std.specs.Prelude.{◌≡◌, false};
 ghost use Rattle.clap.specs.Words.{rule_of};
 ghost use Rattle.command_line.specs.Rows.{rule_of_row};
 
-use crate::arguments::{argument, flag, maybe_word, number};
+use crate::arguments::{argument, filled_word, flag, maybe_word, number};
 use crate::numbers::NumberOption;
 use clap::Arg;
 use std::alloc::Global;
@@ -20,6 +20,10 @@ pub(crate) enum OptionRow {
     MaybeNumber(NumberOption),
     /// An option with a word that may be left out: its name, its value's, and its text.
     MaybeWord(&'static str, &'static str, &'static str),
+    /// An option with the path of a file, which may be left out and is not empty: its name, and its text.
+    MaybeFile(&'static str, &'static str),
+    /// An option with a word that is not empty, the last where it is left out.
+    FilledOr(&'static str, &'static str, &'static str, &'static str),
     /// An option with a word, the last where it is left out.
     WordOr(&'static str, &'static str, &'static str, &'static str),
     /// An option that may be left out, and so may its word: the last then.
@@ -35,6 +39,8 @@ impl OptionRow {
             OptionRow::Flag(name, _) => name,
             OptionRow::Number(option) | OptionRow::MaybeNumber(option) => option.name,
             OptionRow::MaybeWord(name, _, _) => name,
+            OptionRow::MaybeFile(name, _) => name,
+            OptionRow::FilledOr(name, _, _, _) => name,
             OptionRow::WordOr(name, _, _, _) => name,
             OptionRow::MaybeWordOr(name, _, _, _) => name,
             OptionRow::Argument(name, _, _) => name,
@@ -76,7 +82,9 @@ fn heading_of(name: &str) -> Option<&'static str> {
         | "give-up"
         | "silent"
         | "quiet" => Some("Connection"),
-        "input" | "prefix" | "service" | "fit" | "strict" => Some("Lines"),
+        "input" | "prefix" | "service" | "fit" | "strict" | "pass-over" | "from-line" => {
+            Some("Lines")
+        }
         "words" | "rbds" | "json" | "name" | "no-time" => Some("Form"),
         "log" | "log-wait" | "store" | "final-store" | "verbose" | "ladder" => Some("Output"),
         "state" | "join" | "rejoin" | "station" => Some("State"),
@@ -97,6 +105,10 @@ fn plain_argument<'a>(alloc: Global, row: &OptionRow) -> Arg<'a>
         OptionRow::Number(option) => number(alloc, &option),
         OptionRow::MaybeNumber(option) => number(alloc, &option).required(false),
         OptionRow::MaybeWord(name, value, help) => maybe_word(alloc, name, value, help),
+        OptionRow::MaybeFile(name, help) => filled_word(alloc, name, "FILE", help),
+        OptionRow::FilledOr(name, value, help, default) => {
+            filled_word(alloc, name, value, help).default_value(default)
+        }
         OptionRow::WordOr(name, value, help, default) => {
             maybe_word(alloc, name, value, help).default_value(default)
         }

@@ -58,5 +58,7 @@ fn full_of(alloc: Global, command: CommandName, found: &ArgMatches<'_>) -> Resul
         CommandName::Receive => Ok(receive_of(found)),
         CommandName::Conformance => conformance_of(alloc, found),
         CommandName::Page => page_of(alloc, found),
+        CommandName::Quote => Ok(Job::Quote),
+        CommandName::Phrases => Ok(Job::Phrases),
     }
 }

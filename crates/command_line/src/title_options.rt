@@ -39,7 +39,7 @@ pub(crate) fn titles_of(
 }
 
 /// Whether an option with a word is given.
-fn has_word(found: &ArgMatches<'_>, name: &str) -> bool
+pub(crate) fn has_word(found: &ArgMatches<'_>, name: &str) -> bool
     ensures { result ≡ is_some (first_of name.now (rows_of (found_of found.now))) }
 {
     found.get_str(name).is_some()
@@ -118,7 +118,7 @@ fn service_of(found: &ArgMatches<'_>) -> Option<u8>
 }
 
 /// Clap's error with this text, or want of memory.
-fn refusal(alloc: Global, text: &str) -> Usage
+pub(crate) fn refusal(alloc: Global, text: &str) -> Usage
     ensures { IsRefusal result }
 {
     match refusal_in(alloc, text) {

@@ -112,6 +112,10 @@ pub enum Job {
     Conformance(ConformanceOptions),
     /// A live page of what the lines on standard input tell.
     Page(PageOptions),
+    /// The lines on standard input as strings of phrases.
+    Quote,
+    /// The page that tells the phrases.
+    Phrases,
 }
 
 /// The variant's name alone: the options can be many.
@@ -142,5 +146,7 @@ fn name_of(job: &Job) -> &'static str {
         Job::Receive(_) => "Receive",
         Job::Conformance(_) => "Conformance",
         Job::Page(_) => "Page",
+        Job::Quote => "Quote",
+        Job::Phrases => "Phrases",
     }
 }

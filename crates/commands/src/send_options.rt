@@ -30,6 +30,10 @@ pub struct SendOptions {
     pub form: Form,
     /// Whether the run ends at a line that is refused.
     pub strict: bool,
+    /// The file at whose end a line that is refused is kept, if there is one; not with `strict`.
+    pub pass_over: Option<String>,
+    /// The number of the first line of the input, at least 1.
+    pub from_line: u32,
     /// Whether the encoder is joined even where it was joined before.
     pub join: bool,
     /// Whether an encoder that answers nothing is joined anew.

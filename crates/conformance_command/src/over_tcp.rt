@@ -40,7 +40,11 @@ pub fn run_conformance_over_tcp<'a, W: Write, E: Write, N: Net<Stream = TcpStrea
     let timeout = u64::from(job.timeout);
     let quiet = u64::from(job.quiet);
     let Some((host, port)) = address_of(job.place.as_str()) else {
-        errors.say(&[b"uecp: no HOST:PORT\n"]);
+        errors.say(&[
+            b"uecp: no HOST:PORT: ",
+            job.place.as_str().as_bytes(),
+            b"\n",
+        ]);
         return 2;
     };
     let mut dialled = Dialled::new(net, host, port, timeout, quiet);

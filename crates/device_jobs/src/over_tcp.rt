@@ -202,7 +202,7 @@ pub fn fail_address<E: Write>(fault: AddressFault, errors: &mut NoticesTo<E>) ->
     ensures { (2 ≤ result) × (result ≤ 3) }
 {
     let text = match fault {
-        AddressFault::NoAddress => "listen: no IP address",
+        AddressFault::NoAddress => "listen: no IP address, alone or with a port up to 65535",
         AddressFault::NoPort => "listen: no port is given",
         AddressFault::TwoPorts => "listen: two ports are given",
         AddressFault::PortZero => "listen: port 0 is none",

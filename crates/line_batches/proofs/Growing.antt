@@ -7,6 +7,8 @@ use Rattle.line_batches.specs.declared.intake.Input.{Input}
 use Rattle.uecp_text.specs.declared.run_fault.RunFault.TheVariants as run
 use Rattle.line_feed.specs.declared.feed.Next.{Next}
 use Rattle.line_feed.specs.declared.feed_fault.FeedFault.{FeedFault}
+use Rattle.line_feed.specs.declared.feed_fault.NotKept.{NotKept}
+use Rattle.line_feed.specs.Lines.{Refusal}
 use Rattle.line_batches.specs.declared.intake.Given.{Given}
 use Rattle.line_batches.specs.declared.taking.After.{After}
 use Rattle.line_batches.specs.declared.taking.After.TheVariants.{GoesOn, Ends}
@@ -38,18 +40,19 @@ refused_then ((l, g) ∷ more) line given none is =
     by false none_more rest = rest none_more
 
 module _ {D : Type 0} (remaining : D → Option (List ℕ)) (takes : D → Result Next FeedFault → List ℕ → D → Type 0)
-    (says : D → Bool → D → Type 0) where
+    (says : D → Bool → D → Type 0)
+    (passes : D → Refusal → Result (Unit {0}) NotKept → D → Type 0) where
   lines_then : (input : Input) (size : ℕ) (messages : List (List ℕ)) (taken : List (List ℕ × Given))
       (x y z w : FeedIntake D) (line : List ℕ) (given : Given)
-      → TakesOn remaining takes says input size messages taken x y
-      → ComesToMore remaining takes says size (messages ++ messages_in taken) y z
-      → TakesNext remaining takes says input line given z w
-      → TakesOn remaining takes says input size messages (taken ++ (line, given) ∷ []) x w
+      → TakesOn remaining takes says passes input size messages taken x y
+      → ComesToMore remaining takes says passes size (messages ++ messages_in taken) y z
+      → TakesNext remaining takes says passes input line given z w
+      → TakesOn remaining takes says passes input size messages (taken ++ (line, given) ∷ []) x w
   lines_then input size messages [] x y z w line given same more one = (
     z,
     w,
-    subst (λ (u : FeedIntake D). ComesToMore remaining takes says size messages u z) same
-        (subst (λ ms. ComesToMore remaining takes says size ms y z) (append-nil messages) more),
+    subst (λ (u : FeedIntake D). ComesToMore remaining takes says passes size messages u z) same
+        (subst (λ ms. ComesToMore remaining takes says passes size ms y z) (append-nil messages) more),
     one,
     refl,
   )
@@ -59,7 +62,7 @@ module _ {D : Type 0} (remaining : D → Option (List ℕ)) (takes : D → Resul
     comes,
     next,
     lines_then input size (messages ++ message_of g) rest v y z w line given on
-        (subst (λ ms. ComesToMore remaining takes says size ms y z)
+        (subst (λ ms. ComesToMore remaining takes says passes size ms y z)
         (sym (append_assoc messages (message_of g) (messages_in rest))) more) one,
   )
 
@@ -69,8 +72,8 @@ module _ {D : Type 0} (remaining : D → Option (List ℕ)) (takes : D → Resul
       (batch : List (List ℕ)) : Type 0 where
     pub taken : List (List ℕ × Given)
     pub last : FeedIntake D
-    pub lines : TakesOn remaining takes says input size [] taken x last
-    pub more : ComesToMore remaining takes says size (messages_in taken) last x'
+    pub lines : TakesOn remaining takes says passes input size [] taken x last
+    pub more : ComesToMore remaining takes says passes size (messages_in taken) last x'
     pub messages : batch ≡ messages_in taken
     pub room : length batch < size
     pub passed : NoneRefused strict taken
@@ -96,19 +99,19 @@ module _ {D : Type 0} (remaining : D → Option (List ℕ)) (takes : D → Resul
       one_more line given put =
           put ∙ ap (λ b. b ++ message_of given) has.messages ∙ sym (messages_then has.taken line given)
 
-      none_more : (line : List ℕ) (given : Given) → IsPassed remaining takes says strict given
+      none_more : (line : List ℕ) (given : Given) → IsPassed remaining takes says passes strict given
           → NoneRefused strict (has.taken ++ (line, given) ∷ [])
       none_more line given passed = λ is_strict.
           refused_then has.taken line given (has.passed is_strict) (passed is_strict)
 
-      pub grows : TakesInto remaining takes says input size strict y z batch batch' None
+      pub grows : TakesInto remaining takes says passes input size strict y z batch batch' None
           → HasTaken input size strict (count + 1) x z batch'
       grows (inl (line, given, u, one, inl (put, (goes, room, passed)), same)) = record {
         taken = has.taken ++ (line, given) ∷ [];
         last = u;
         lines = lines_then input size [] has.taken x has.last y u line given has.lines has.more one;
         more = (
-          subst (λ ms. GoesFurther remaining takes says size ms u.feed z.feed) (one_more line given put) goes,
+          subst (λ ms. GoesFurther remaining takes says passes size ms u.feed z.feed) (one_more line given put) goes,
           same,
         );
         messages = one_more line given put;
@@ -121,11 +124,11 @@ module _ {D : Type 0} (remaining : D → Option (List ℕ)) (takes : D → Resul
       grows (inr (same, inr (fault, is, fails))) = cc
 
       ends_so : (line : List ℕ) (given : Given) (u : FeedIntake D) (after : After)
-          → EndsAt remaining takes says size strict given batch' after u.feed z.feed
+          → EndsAt remaining takes says passes size strict given batch' after u.feed z.feed
           → z ≡ record u { feed = z.feed } → batch' ≡ messages_in (has.taken ++ (line, given) ∷ [])
-          → EndsBatch remaining takes says input size strict (has.taken ++ (line, given) ∷ []) u z after
+          → EndsBatch remaining takes says passes input size strict (has.taken ++ (line, given) ∷ []) u z after
       ends_so line given u GoesOn (whole, passed) same are = (
-        subst (λ ms. IsWhole remaining takes says size ms u.feed z.feed) are whole,
+        subst (λ ms. IsWhole remaining takes says passes size ms u.feed z.feed) are whole,
         same,
         none_more line given passed,
       )
@@ -138,11 +141,11 @@ module _ {D : Type 0} (remaining : D → Option (List ℕ)) (takes : D → Resul
       ends_so line given u (Ends (Err fault)) never same are = absurd never
 
       abbrev Ended : After → Type 0
-      Ended after = EndsBatch remaining takes says input size strict has.taken has.last z after
+      Ended after = EndsBatch remaining takes says passes input size strict has.taken has.last z after
 
       -- behind the lines of before
       stops : (after why : After) → after ≡ why → batch' ≡ batch → Ended why
-          → TakesBatch remaining takes says input size strict batch' after x z
+          → TakesBatch remaining takes says passes input size strict batch' after x z
       stops after why is same ended = (
         has.taken,
         has.last,
@@ -152,8 +155,9 @@ module _ {D : Type 0} (remaining : D → Option (List ℕ)) (takes : D → Resul
         subst Ended (sym is) ended,
       )
 
-      pub is_done : (after : After) → TakesInto remaining takes says input size strict y z batch batch' (Some after)
-          → TakesBatch remaining takes says input size strict batch' after x z
+      pub is_done : (after : After) → TakesInto remaining takes says passes input size strict y z batch batch'
+          (Some after)
+          → TakesBatch remaining takes says passes input size strict batch' after x z
       is_done after (inl (line, given, u, one, inl (put, ends), same)) = (
         has.taken ++ (line, given) ∷ [],
         u,
@@ -164,18 +168,20 @@ module _ {D : Type 0} (remaining : D → Option (List ℕ)) (takes : D → Resul
       )
       is_done after (inl (line, given, u, one, inr (same, is, is_message, stays), so)) =
           let there : u ≡ z = sym (so ∙ ap (λ f. record u { feed = f }) stays) in
-          let lost : TakesNext remaining takes says input line given y z =
-          subst (λ (v : FeedIntake D). TakesNext remaining takes says input line given y v) there one in
+          let lost : TakesNext remaining takes says passes input line given y z =
+          subst (λ (v : FeedIntake D). TakesNext remaining takes says passes input line given y v) there one in
           stops after (Ends (Err run.OutOfMemory)) (some_same is) same
-          (y, has.more, inr (inl (refl, (line, given, lost, is_message))), has.passed)
+          (y, has.more, inr (inl (inr (refl, (line, given, lost, is_message)))), has.passed)
       is_done after (inr (same, inl (found, is))) =
           stops after (Ends (Ok tt)) (some_same is) same (inl (y, has.more, found, has.passed))
-      is_done after (inr (same, inr (fault, is, fails))) =
+      is_done after (inr (same, inr (fault, is, inl fails))) =
           stops after (Ends (Err fault)) (some_same is) same (y, has.more, inl fails, has.passed)
+      is_done after (inr (same, inr (fault, is, inr not_kept))) =
+          stops after (Ends (Err fault)) (some_same is) same (y, has.more, inr (inl (inl not_kept)), has.passed)
 
     pub gives_up : (count : ℕ) (y : FeedIntake D) (batch : List (List ℕ)) → HasTaken input size strict count x y batch
         → count ≡ 2 ^ 64 - 1
-        → TakesBatch remaining takes says input size strict batch (Ends (Err run.Reading)) x y
+        → TakesBatch remaining takes says passes input size strict batch (Ends (Err run.Reading)) x y
     gives_up count y batch has all = (
       has.taken,
       has.last,

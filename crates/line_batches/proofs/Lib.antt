@@ -1,4 +1,5 @@
 -- What the proofs of batches use.
 pub mod Growing
 pub mod Seeing
+pub mod Keeping
 pub mod Public

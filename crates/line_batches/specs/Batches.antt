@@ -5,10 +5,12 @@ use Rattle.std.specs.Io.KnownBytes.{Keeps}
 use Rattle.line_batches.specs.declared.intake.Input.{Input}
 use Rattle.uecp_text.specs.declared.text_fault.TextFault.{TextFault}
 use Rattle.uecp_text.specs.declared.run_fault.RunFault.{RunFault}
-use Rattle.uecp_text.specs.declared.run_fault.RunFault.TheVariants.{OutOfMemory, Reading}
+use Rattle.uecp_text.specs.declared.run_fault.RunFault.TheVariants.{OutOfMemory, Reading, Writing}
 use Rattle.line_feed.specs.declared.feed.Next.{Next}
 use Rattle.line_feed.specs.declared.feed.Next.TheVariants.{End}
 use Rattle.line_feed.specs.declared.feed_fault.FeedFault.{FeedFault}
+use Rattle.line_feed.specs.declared.feed_fault.NotKept.{NotKept}
+use Rattle.line_feed.specs.Lines.{IsHeld, Refusal}
 use Rattle.line_batches.specs.declared.intake.Given.{Given}
 use Rattle.line_batches.specs.declared.intake.Given.TheVariants.{Refused}
 use Rattle.line_batches.specs.declared.taking.After.{After}
@@ -27,15 +29,21 @@ abbrev pub EndsRefused : List (List ℕ × Given) → Type 0
 EndsRefused taken = (before : List (List ℕ × Given)) × (line : List ℕ) × (fault : TextFault)
     × (taken ≡ before ++ (line, Refused fault) ∷ []) × (has_refused before ≡ false)
 
--- The next line was taken and counted, and there was no memory to hold its message, which is lost.
-abbrev pub LosesMessage : Input → (x x' : Intake) → RunFault → Type 0
-LosesMessage input x x' fault = (fault ≡ OutOfMemory)
-    × ((line : List ℕ) × (given : Given) × TakesLine input line given x x' × IsMessage given)
+-- Behind a line that was taken, and gives this, a run ends for this: there was no memory to hold its message, which is
+-- lost; or it was refused, and could not be kept where such lines are.
+abbrev pub IsLeft : Given → RunFault → Type 0
+IsLeft given fault = ((fault ≡ OutOfMemory) × IsMessage given) ⊎ ((fault ≡ Writing) × (is_refusal given ≡ true))
+
+-- The next line was taken and counted, and the run ends behind it for this.
+abbrev pub LeavesLine : Input → (x x' : Intake) → RunFault → Type 0
+LeavesLine input x x' fault =
+    (line : List ℕ) × (given : Given) × TakesLine input line given x x' × IsLeft given fault
 
 -- ---- When a further line is taken. A feed stands somewhere, and has calls that tell whether a line is there, and that
 -- take one.
 module _ {D : Type 0} (remaining : D → Option (List ℕ)) (takes : D → Result Next FeedFault → List ℕ → D → Type 0)
-    (says : D → Bool → D → Type 0) where
+    (says : D → Bool → D → Type 0)
+    (passes : D → Refusal → Result (Unit {0}) NotKept → D → Type 0) where
   -- It was asked whether a line is there, once, and answered so.
   abbrev pub Answers : (there : Bool) → (d d' : D) → Type 0
   Answers there d d' = says d there d' × Keeps (remaining d) (remaining d')
@@ -59,10 +67,22 @@ module _ {D : Type 0} (remaining : D → Option (List ℕ)) (takes : D → Resul
 
   -- ---- One call for the next line.
 
-  -- The next line was taken, which gives this.
+  -- Of a line that gives this, of this number and of which this is held, the feed was told where it is refused, and
+  -- answered so; of another it was told nothing.
+  abbrev pub TellsRefused : Given → (number : ℕ) → (held : List ℕ) → Result (Unit {0}) NotKept → (d d' : D) → Type 0
+  TellsRefused (Refused fault) number held kept d d' =
+      passes d (record { number = number; fault = fault; line = held }) kept d'
+  TellsRefused given number held kept d d' = (kept ≡ Ok tt) × (d' ≡ d)
+
+  -- The next line was taken, which gives this, and the feed was told of it where it is refused, and answered so.
+  abbrev pub TakesTold : Input → (line : List ℕ) → Given → Result (Unit {0}) NotKept → (x x' : FeedIntake D) → Type 0
+  TakesTold input line given kept x x' = TakesLine input line given (seen remaining x) (seen remaining x')
+      × ((next : Next) × (held : List ℕ) × (d : D) × takes x.feed (Ok next) held d × IsHeld line held
+      × TellsRefused given x'.lines held kept d x'.feed)
+
+  -- So, and the next one comes behind it.
   abbrev pub TakesNext : Input → (line : List ℕ) → Given → (x x' : FeedIntake D) → Type 0
-  TakesNext input line given x x' = TakesLine input line given (seen remaining x) (seen remaining x')
-      × ((next : Next) × (held : List ℕ) × takes x.feed (Ok next) held x'.feed)
+  TakesNext input line given x x' = TakesTold input line given (Ok tt) x x'
 
   -- None was, and the input is at its end.
   abbrev pub FindsEnd : Input → (x x' : FeedIntake D) → Type 0
@@ -79,10 +99,18 @@ module _ {D : Type 0} (remaining : D → Option (List ℕ)) (takes : D → Resul
   FailsNext x x' fault = FailsToTake (seen remaining x) (seen remaining x') fault
       × ((answer : Result Next FeedFault) × (held : List ℕ) × takes x.feed answer held x'.feed)
 
-  -- The next line was taken, and there was no memory to hold its message, which is lost.
-  abbrev pub LosesNext : Input → (x x' : FeedIntake D) → RunFault → Type 0
-  LosesNext input x x' fault = (fault ≡ OutOfMemory)
-      × ((line : List ℕ) × (given : Given) × TakesNext input line given x x' × IsMessage given)
+  -- The next line was taken, and is refused, and the feed could not keep it.
+  abbrev pub IsNotKept : Input → (x x' : FeedIntake D) → RunFault → Type 0
+  IsNotKept input x x' fault = (fault ≡ Writing)
+      × ((line : List ℕ) × (given : Given) × (why : NotKept) × TakesTold input line given (Err why) x x'
+      × (is_refusal given ≡ true))
+
+  -- So; or there was no memory to hold its message, which is lost.
+  abbrev pub LeavesNext : Input → (x x' : FeedIntake D) → RunFault → Type 0
+  LeavesNext input x x' fault =
+      IsNotKept input x x' fault
+      ⊎ ((fault ≡ OutOfMemory)
+      × ((line : List ℕ) × (given : Given) × TakesNext input line given x x' × IsMessage given))
 
   -- ---- A batch.
 
@@ -96,8 +124,8 @@ module _ {D : Type 0} (remaining : D → Option (List ℕ)) (takes : D → Resul
       × TakesOn input size (messages ++ message_of given) more z x'
 
   -- Why a batch ends there: it is whole, and the run goes on; or the input is at its end, or a line was refused where
-  -- that ends the run; or the next line could not be read, or memory was wanting for it or for its message, or 2^64 - 1
-  -- lines were taken, and the run ends for that.
+  -- that ends the run; or the next line could not be read, or memory was wanting for it or for its message, or it was
+  -- refused and the feed could not keep it, or 2^64 - 1 lines were taken, and the run ends for that.
   abbrev pub EndsBatch : Input → (size : ℕ) → (strict : Bool) → List (List ℕ × Given) → (x x' : FeedIntake D) → After
       → Type 0
   EndsBatch input size strict taken x x' GoesOn =
@@ -107,7 +135,7 @@ module _ {D : Type 0} (remaining : D → Option (List ℕ)) (takes : D → Resul
       ⊎ ((strict ≡ true) × EndsRefused taken × (x' ≡ x))
   EndsBatch input size strict taken x x' (Ends (Err fault)) =
       (y : FeedIntake D) × ComesToMore size (messages_in taken) x y
-      × (FailsNext y x' fault ⊎ LosesNext input y x' fault
+      × (FailsNext y x' fault ⊎ LeavesNext input y x' fault
       ⊎ ((fault ≡ Reading) × (length taken ≡ 2 ^ 64 - 1) × (x' ≡ y)))
       × NoneRefused strict taken
 
@@ -152,11 +180,12 @@ module _ {D : Type 0} (remaining : D → Option (List ℕ)) (takes : D → Resul
       × IsMessage given × (d' ≡ d))
 
   -- The next line was taken into a batch that has room for its message, and this comes after it. Or no line was taken,
-  -- since the input is at its end, or for this fault. (private)
+  -- since the input is at its end, or for this fault; or it was refused, and the feed could not keep it. (private)
   abbrev pub TakesInto : Input → (size : ℕ) → (strict : Bool) → (x x' : FeedIntake D) → (batch batch' : List (List ℕ))
       → Option After → Type 0
   TakesInto input size strict x x' batch batch' after =
       ((line : List ℕ) × (given : Given) × (y : FeedIntake D) × TakesNext input line given x y
       × PutsGiven size strict given batch batch' after y.feed x'.feed × (x' ≡ record y { feed = x'.feed }))
       ⊎ ((batch' ≡ batch) × ((FindsEnd input x x' × (after ≡ Some (Ends (Ok tt))))
-      ⊎ ((fault : RunFault) × (after ≡ Some (Ends (Err fault))) × FailsNext x x' fault)))
+      ⊎ ((fault : RunFault) × (after ≡ Some (Ends (Err fault)))
+      × (FailsNext x x' fault ⊎ IsNotKept input x x' fault))))

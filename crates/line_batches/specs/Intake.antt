@@ -12,7 +12,7 @@ use Rattle.uecp_text.specs.Faults.{error_lines}
 use Rattle.uecp_text.specs.Input.{said}
 use Rattle.uecp_text.specs.Run.{fault_at}
 use Rattle.line_feed.specs.declared.feed_fault.FeedFault.TheVariants as feed
-use Rattle.line_feed.specs.Lines.{IsFirstLine, IsUntaken}
+use Rattle.line_feed.specs.Lines.{IsFirstLine, IsHeld, IsUntaken}
 use Rattle.line_batches.specs.declared.intake.Input.{Input}
 use Rattle.line_batches.specs.declared.intake.Input.TheVariants.{Phrases, Titles as TitlesOf}
 use Rattle.line_batches.specs.declared.intake.Given.{Given}
@@ -68,6 +68,12 @@ abbrev pub NextGives : Input → (unread unread' : Option (List ℕ)) → Option
 NextGives input unread unread' None = Keeps unread unread' × IsAtEnd unread'
 NextGives input unread unread' (Some given) =
     (line : List ℕ) × IsFirstLine unread unread' line × GivesOne input line given
+
+-- So; and of the line that was taken this is held.
+abbrev pub GivesNext : Input → (unread unread' : Option (List ℕ)) → (held : List ℕ) → Option Given → Type 0
+GivesNext input unread unread' held None = NextGives input unread unread' None
+GivesNext input unread unread' held (Some given) =
+    (line : List ℕ) × IsFirstLine unread unread' line × GivesOne input line given × IsHeld line held
 
 -- No line gives anything, for this: a read failed, and no line was taken; or memory was wanting for a line, and where
 -- it was wanting for what that says, the line is lost.

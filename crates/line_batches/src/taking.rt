@@ -1,18 +1,21 @@
 //! Lines are taken as they come, and make a batch. Source: profile.
 ghost use Rattle.std.specs.Prelude.{◌≡◌, ◌≤◌, ◌+◌, ◌-◌, ◌^◌, ◌||◌, ◌<◌, true, false, length, min, ℕ, List, []};
-ghost use Rattle.std.specs.Prelude.{Result, Ok, None, IfOk, IfErr, IfSome, IfNone, codes, ◌++◌};
+ghost use Rattle.std.specs.Prelude.{Result, Ok, Err, None, IfOk, IfErr, IfSome, IfNone, codes, ◌++◌, ◌⊎◌};
 ghost use Rattle.line_feed.specs.declared.feed.Next.{Next as Came};
 ghost use Rattle.line_feed.specs.declared.feed.Next.TheVariants.{End};
 ghost use Rattle.line_feed.specs.declared.feed_fault.FeedFault.{FeedFault as Fault};
-ghost use Rattle.line_batches.specs.Intake.{NextGives, NextFails, SaysOf, fitted_line, is_refusal};
+ghost use Rattle.line_batches.specs.Intake.{GivesNext, NextFails, SaysOf, fitted_line, is_refusal};
+ghost use Rattle.std.specs.Io.KnownBytes.{Keeps};
 ghost use Rattle.notices.specs.Told.{Says};
 ghost use Rattle.line_batches.specs.declared.taking.After.TheVariants.{GoesOn};
 ghost use Rattle.line_batches.specs.Batches.{TakesBatch, TakesInto, TakesGiven, FailsNext, PutsGiven, GoesFurther};
-ghost use Rattle.line_batches.specs.Batches.{IsWhole};
+ghost use Rattle.line_batches.specs.Batches.{IsNotKept, IsWhole, TellsRefused};
+ghost use Rattle.line_feed.specs.declared.feed_fault.NotKept.{NotKept as Unkept};
+ghost use Rattle.uecp_text.specs.declared.run_fault.RunFault.TheVariants.{Writing};
 
 use crate::intake::{Given, Input, read_line};
 use itoa::Buffer;
-use line_feed::{Feed, FeedFault, Next};
+use line_feed::{Feed, FeedFault, Next, NotKept};
 use notices::{Notices, NoticesTo};
 use std::alloc::Global;
 use std::io::Write;
@@ -61,7 +64,7 @@ pub fn take_batch<F: Feed, E: Write>(
 ) -> After
     requires empty { batch.old.items ≡ [] }
     requires some { 1 ≤ reading.now.size }
-    ensures { TakesBatch F.remaining F.takes F.says reading.now.input reading.now.size reading.now.strict
+    ensures { TakesBatch F.remaining F.takes F.says F.passes reading.now.input reading.now.size reading.now.strict
         batch.new.items result (record {
           feed = feed.old;
           lines = tally.old.lines;
@@ -93,17 +96,18 @@ fn take_one<F: Feed, E: Write>(
     batch: &mut Vec<Message>,
 ) -> Option<After>
     requires room { length batch.old.items < reading.now.size }
-    ensures { TakesInto F.remaining F.takes F.says reading.now.input reading.now.size reading.now.strict (record {
-      feed = feed.old;
-      lines = tally.old.lines;
-      refused = tally.old.refused;
-      said = errors.old;
-    }) (record {
-      feed = feed.new;
-      lines = tally.new.lines;
-      refused = tally.new.refused;
-      said = errors.new;
-    }) batch.old.items batch.new.items result }
+    ensures { TakesInto F.remaining F.takes F.says F.passes reading.now.input reading.now.size reading.now.strict
+        (record {
+          feed = feed.old;
+          lines = tally.old.lines;
+          refused = tally.old.refused;
+          said = errors.old;
+        }) (record {
+          feed = feed.new;
+          lines = tally.new.lines;
+          refused = tally.new.refused;
+          said = errors.new;
+        }) batch.old.items batch.new.items result }
 {
     match take_line(alloc, &reading.input, feed, line, errors, tally) {
         Err(fault) => Some(After::Ends(Err(fault))),
@@ -120,7 +124,7 @@ fn put_given<F: Feed>(
     batch: &mut Vec<Message>,
 ) -> Option<After>
     requires room { length batch.old.items < reading.now.size }
-    ensures { PutsGiven F.remaining F.takes F.says reading.now.size reading.now.strict given batch.old.items
+    ensures { PutsGiven F.remaining F.takes F.says F.passes reading.now.size reading.now.strict given batch.old.items
         batch.new.items result feed.old feed.new }
 {
     match given {
@@ -143,10 +147,11 @@ fn put_given<F: Feed>(
 fn go_on<F: Feed>(size: usize, batch: &Vec<Message>, feed: &mut F) -> Option<After>
     requires some { 1 ≤ size }
     requires most { length batch.now.items ≤ size }
-    ensures none { IfNone result (GoesFurther F.remaining F.takes F.says size batch.now.items feed.old feed.new) }
+    ensures none { IfNone result (GoesFurther F.remaining F.takes F.says F.passes size batch.now.items feed.old
+        feed.new) }
     ensures room { IfNone result (length batch.now.items < size) }
     ensures some { IfSome result (λ after. (after ≡ GoesOn)
-        × IsWhole F.remaining F.takes F.says size batch.now.items feed.old feed.new) }
+        × IsWhole F.remaining F.takes F.says F.passes size batch.now.items feed.old feed.new) }
 {
     if is_whole(size, batch, feed) {
         Some(After::GoesOn)
@@ -159,8 +164,9 @@ fn go_on<F: Feed>(size: usize, batch: &Vec<Message>, feed: &mut F) -> Option<Aft
 fn is_whole<F: Feed>(size: usize, batch: &Vec<Message>, feed: &mut F) -> bool
     requires some { 1 ≤ size }
     requires most { length batch.now.items ≤ size }
-    ensures whole { result ≡ true → IsWhole F.remaining F.takes F.says size batch.now.items feed.old feed.new }
-    ensures further { result ≡ false → GoesFurther F.remaining F.takes F.says size batch.now.items feed.old feed.new }
+    ensures whole { result ≡ true → IsWhole F.remaining F.takes F.says F.passes size batch.now.items feed.old feed.new }
+    ensures further { result ≡ false → GoesFurther F.remaining F.takes F.says F.passes size batch.now.items feed.old
+        feed.new }
     ensures room { result ≡ false → length batch.now.items < size }
 {
     if batch.is_empty() {
@@ -169,9 +175,9 @@ fn is_whole<F: Feed>(size: usize, batch: &Vec<Message>, feed: &mut F) -> bool
     batch.len() == size || !feed.is_there()
 }
 
-/// Takes a line, and says what is wrong with one that is refused; None at the end of the input.
+/// Takes a line, says what is wrong with one that is refused, and tells the feed of it; None at the end of the input.
 ///
-/// Errors: `Reading`; `OutOfMemory`, and then the line may be lost.
+/// Errors: `Reading`; `OutOfMemory`, and then the line may be lost; `Writing` where the feed could not keep it.
 fn take_line<F: Feed, E: Write>(
     alloc: Global,
     input: &Input<'_>,
@@ -180,7 +186,7 @@ fn take_line<F: Feed, E: Write>(
     errors: &mut NoticesTo<E>,
     tally: &mut Tally,
 ) -> Result<Option<Given>, RunFault>
-    ensures taken { IfOk result (TakesGiven F.remaining F.takes F.says input.now (record {
+    ensures taken { IfOk result (TakesGiven F.remaining F.takes F.says F.passes input.now (record {
       feed = feed.old;
       lines = tally.old.lines;
       refused = tally.old.refused;
@@ -191,7 +197,7 @@ fn take_line<F: Feed, E: Write>(
       refused = tally.new.refused;
       said = errors.new;
     })) }
-    ensures failed { IfErr result (FailsNext F.remaining F.takes F.says (record {
+    ensures failed { IfErr result (λ fault. FailsNext F.remaining F.takes F.says F.passes (record {
       feed = feed.old;
       lines = tally.old.lines;
       refused = tally.old.refused;
@@ -201,13 +207,48 @@ fn take_line<F: Feed, E: Write>(
       lines = tally.new.lines;
       refused = tally.new.refused;
       said = errors.new;
-    })) }
+    }) fault ⊎ IsNotKept F.remaining F.takes F.says F.passes input.now (record {
+      feed = feed.old;
+      lines = tally.old.lines;
+      refused = tally.old.refused;
+      said = errors.old;
+    }) (record {
+      feed = feed.new;
+      lines = tally.new.lines;
+      refused = tally.new.refused;
+      said = errors.new;
+    }) fault) }
 {
     let Some(given) = next_given(alloc, input, feed, line)? else {
         return Ok(None);
     };
     count_line(&given, errors, tally);
+    tell_refused(&given, tally.lines, line.as_slice(), feed)?;
     Ok(Some(given))
+}
+
+/// Tells the feed of a line that is refused, of this number and of which this is held.
+///
+/// Errors: `Writing`, where the feed could not keep it.
+fn tell_refused<F: Feed>(
+    given: &Given,
+    number: usize,
+    held: &[u8],
+    feed: &mut F,
+) -> Result<(), RunFault>
+    ensures keeps { Keeps (F.remaining feed.old) (F.remaining feed.new) }
+    ensures told { IfOk result (λ _. TellsRefused F.remaining F.takes F.says F.passes given.now number held.now (Ok tt)
+        feed.old feed.new) }
+    ensures not_kept { IfErr result (λ fault. (fault ≡ Writing) × (is_refusal given.now ≡ true) × ((why : Unkept)
+        × TellsRefused F.remaining F.takes F.says F.passes given.now number held.now (Err why) feed.old feed.new)) }
+{
+    match given {
+        Given::Refused(fault) => match feed.pass_over(number, fault, held) {
+            Ok(()) => Ok(()),
+            Err(NotKept) => Err(RunFault::Writing),
+        },
+        _ => Ok(()),
+    }
 }
 
 /// What the next line gives; None at the end of the input.
@@ -219,9 +260,9 @@ fn next_given<F: Feed>(
     feed: &mut F,
     line: &mut Vec<u8>,
 ) -> Result<Option<Given>, RunFault>
-    ensures gives { IfOk result (NextGives input.now (F.remaining feed.old) (F.remaining feed.new)) }
+    ensures gives { IfOk result (GivesNext input.now (F.remaining feed.old) (F.remaining feed.new) line.new.items) }
     ensures failed { IfErr result (NextFails (F.remaining feed.old) (F.remaining feed.new)) }
-    ensures took { IfOk result (λ given. (next : Came) × (held : List ℕ) × F.takes feed.old (Ok next) held feed.new
+    ensures took { IfOk result (λ given. (next : Came) × F.takes feed.old (Ok next) line.new.items feed.new
         × (given ≡ None → next ≡ End)) }
     ensures asked { IfErr result (λ _. (answer : Result Came Fault) × (held : List ℕ)
         × F.takes feed.old answer held feed.new) }

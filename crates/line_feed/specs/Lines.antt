@@ -2,6 +2,7 @@
 use Rattle.std.specs.Prelude.{◌≡◌, ◌≢◌, ◌<◌, ◌≤◌, ◌⊎◌, ℕ, List, [], ◌∷◌, ◌++◌, length, Option, All}
 use Rattle.std.specs.Io.KnownBytes.{Consumes, Keeps, IsAtEnd}
 use Rattle.uecp_text.specs.Input.{lines_of}
+use Rattle.uecp_text.specs.declared.text_fault.TextFault.{TextFault}
 use Rattle.line_feed.specs.declared.feed.Next.{Next}
 use Rattle.line_feed.specs.declared.feed.Next.TheVariants.{Line, TooLong, End}
 use Rattle.line_feed.specs.declared.feed_fault.FeedFault.{FeedFault}
@@ -35,3 +36,13 @@ abbrev pub IsUntaken : (left left' : Option (List ℕ)) → FeedFault → Type 0
 IsUntaken left left' fault =
     Keeps left left' ⊎ ((fault ≡ Reading)
     × ((gone : List ℕ) × Consumes left left' gone × HasNoEnd gone × (65536 < length gone)))
+
+-- Of a line that was taken this is held: all of it, or nothing where it has more than 65,536 bytes.
+abbrev pub IsHeld : (line held : List ℕ) → Type 0
+IsHeld line held = ((length line ≤ 65536) × (held ≡ line)) ⊎ ((65536 < length line) × (held ≡ []))
+
+-- A line that is refused: the number under which that is said, what for, and what is held of it.
+pub record Refusal : Type 0 where
+  pub number : ℕ
+  pub fault : TextFault
+  pub line : List ℕ

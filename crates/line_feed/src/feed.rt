@@ -1,11 +1,13 @@
 //! Where lines come from (profile).
 ghost use Rattle.std.specs.Prelude.{◌≡◌, ℕ, List, [], Option, Result, Bool, IfOk, IfErr};
 ghost use Rattle.std.specs.Io.KnownBytes.{Keeps};
-ghost use Rattle.line_feed.specs.Lines.{IsNext, IsUntaken};
+ghost use Rattle.line_feed.specs.Lines.{IsNext, IsUntaken, Refusal};
 ghost use Rattle.line_feed.specs.declared.feed.Next.{Next as Came};
 ghost use Rattle.line_feed.specs.declared.feed_fault.FeedFault.{FeedFault as Fault};
+ghost use Rattle.line_feed.specs.declared.feed_fault.NotKept.{NotKept as Unkept};
 
-use crate::feed_fault::FeedFault;
+use crate::feed_fault::{FeedFault, NotKept};
+use uecp_text::TextFault;
 
 /// The most bytes of a line, its line feed among them.
 pub const LINE_MAX: usize = 65_536;
@@ -32,6 +34,9 @@ pub trait Feed {
     // What a call of `is_there` does: what it answers, and how the feed stands then.
     ghost says: { Self → Bool → Self → Type 0 };
 
+    // What a call of `pass_over` does: of which line, what it answers, and how the feed stands then.
+    ghost passes: { Self → Refusal → Result (Unit {0}) Unkept → Self → Type 0 };
+
     /// Waits for the next line, and puts it, with its line feed, in place of what `line` held. A line of more than
     /// [`LINE_MAX`] bytes is passed over, up to and with its line feed, and `line` is left empty; at the end too.
     ///
@@ -51,6 +56,15 @@ pub trait Feed {
     fn is_there(&mut self) -> bool
         ensures keeps { Keeps (remaining self.old) (remaining self.new) }
         ensures says { says self.old result self.new };
+
+    /// Is told that the line that was taken last is refused: under which number that is said, what for, and what
+    /// [`next`](Feed::next) put of it.
+    ///
+    /// Errors: `NotKept` where such a line is to be kept, and could not be.
+    fn pass_over(&mut self, number: usize, fault: &TextFault, line: &[u8]) -> Result<(), NotKept>
+        ensures keeps { Keeps (remaining self.old) (remaining self.new) }
+        ensures passes { passes self.old (record { number = number; fault = fault.now; line = line.now }) result
+            self.new };
 
     /// Waits so many milliseconds.
     fn pause(&mut self, milliseconds: u64)

@@ -13,6 +13,10 @@ pub enum FeedFault {
     OutOfMemory,
 }
 
+/// A line that is refused could not be kept where such lines are.
+#[derive(Clone, Copy, Debug, PartialEq, Eq)]
+pub struct NotKept;
+
 impl From<AllocError> for FeedFault {
     ghost from_gives = { λ _ e. e ≡ OutOfMemory };
 

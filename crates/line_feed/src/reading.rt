@@ -1,17 +1,18 @@
 //! The lines of a reader (profile).
-ghost use Rattle.std.specs.Prelude.{◌≡◌, [], true, false, IfOk, IfErr};
+ghost use Rattle.std.specs.Prelude.{◌≡◌, [], true, false, Ok, IfOk, IfErr};
 ghost use Rattle.line_feed.specs.Reading.{Looks, IsReady, IsNotReady, ReadsNoMore, unread};
 ghost use Rattle.line_feed.specs.declared.feed_fault.FeedFault.TheVariants.{OutOfMemory};
 
 use crate::arrival::Arrival;
 use crate::feed::{Feed, Next};
-use crate::feed_fault::FeedFault;
+use crate::feed_fault::{FeedFault, NotKept};
 use crate::held::Held;
 use crate::source::Source;
 use crate::taking::{has_line, read_on, take_next};
 use std::alloc::Global;
 use std::io::Read;
 use std::marker::Model;
+use uecp_text::TextFault;
 
 /// The lines of a reader. It takes memory for one line when it is made, and none after that. It reads at most 4096
 /// bytes at a time, and only where no whole line is held. Before a read that may wait it waits by its arrival. Once the
@@ -71,6 +72,9 @@ impl<R: Read, A: Arrival> Feed for LineFeed<R, A> {
 
     ghost says = { λ f there f'. Looks A.answers f there f' };
 
+    // nothing is done
+    ghost passes = { λ f refusal kept f'. (kept ≡ Ok tt) × (f' ≡ f) };
+
     fn next(&mut self, line: &mut Vec<u8>) -> Result<Next, FeedFault> {
         take_next(&mut self.held, &mut self.source, &mut self.arrival, line)
     }
@@ -84,6 +88,15 @@ impl<R: Read, A: Arrival> Feed for LineFeed<R, A> {
         }
         read_on(&mut self.held, &mut self.source);
         self.is_held()
+    }
+
+    fn pass_over(
+        &mut self,
+        _number: usize,
+        _fault: &TextFault,
+        _line: &[u8],
+    ) -> Result<(), NotKept> {
+        Ok(())
     }
 
     fn pause(&mut self, milliseconds: u64) {

@@ -1,6 +1,7 @@
 pub mod Among
 pub mod Whole
 pub mod Cards
+pub mod Ends
 pub mod Mains
 pub mod Lasts
 pub mod Placing
@@ -11,6 +12,7 @@ pub mod Schedules
 pub mod Delivered
 pub mod Told
 pub mod Stale
+pub mod Minutes
 pub mod Fields
 pub mod Heard
 pub mod Lives

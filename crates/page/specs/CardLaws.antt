@@ -1,13 +1,14 @@
 -- Laws of what a live page shows of control lines.
-use Rattle.std.specs.Prelude.{◌≡◌, ◌≢◌, ◌⊎◌, ℕ, true, false, List, [], ◌∷◌, codes, Option, Some, None}
+use Rattle.std.specs.Prelude.{◌≡◌, ◌≢◌, ◌⊎◌, ℕ, true, false, List, [], ◌∷◌, ◌++◌, All, codes, Option, Some, None}
 use Rattle.std.specs.Prelude.{filter, find}
 use Rattle.std.specs.Str.{bytes_eq}
 use Rattle.serde_json.specs.Data.{Data}
 use Rattle.page.specs.Members.{name_of, number_or_0}
 use Rattle.page.specs.Shown.{is_element, is_stored, tells, told, names_set, new_service}
-use Rattle.page.specs.Air.{Air, set_of, after_telling}
+use Rattle.page.specs.Air.{Air, no_air, set_of, after_message, after_telling}
+use Rattle.page.specs.Answered.{is_of_encoder, is_acknowledged, is_in_doubt}
 use Rattle.page.specs.Counts.{Counts, counted, is_kind, is_sent}
-use Rattle.page.specs.ControlLine.{Arrived, Line, new_line, is_named, line_after, line_behind}
+use Rattle.page.specs.ControlLine.{Arrived, Line, new_line, is_named, air_shown, line_after, line_behind}
 use Rattle.page.specs.State.{State, at_first, shown_of}
 
 -- Of objects those that name this control line.
@@ -59,3 +60,30 @@ abbrev pub CountedOnce : Type 0
 CountedOnce = (d : Data) (c : Counts) →
     (((counted d c).sent ≡ c.sent) ⊎ ((counted d c).messages ≡ c.messages))
     × (is_sent d ≡ false → (counted d c).sent ≡ c.sent)
+
+-- Of objects those that the encoder's end tells, and the answers by which it acknowledged a message of the studio's.
+abbrev pub of_encoder : List Arrived → List Arrived
+of_encoder ds = filter (λ d. is_of_encoder d.object) ds
+
+abbrev pub acknowledged : List Arrived → List Arrived
+acknowledged ds = filter (λ d. is_acknowledged d.object) ds
+
+-- What is on the air behind messages that were applied, one after another.
+abbrev pub behind_messages : List Arrived → Air → Air
+behind_messages [] s = s
+behind_messages (d ∷ ds) s = behind_messages ds (after_message d.object s)
+
+-- Law: where the encoder's end told anything, what is shown is what it told, whatever its studio was answered, before
+-- and since; where only the studio's end tells, it is shown as that was answered.
+abbrev pub OneEnd : Type 0
+OneEnd = (ds : List Arrived) (name : List ℕ) → let l = line_behind ds (new_line name) in
+    (of_encoder ds ≢ [] → air_shown l ≡ (line_behind (of_encoder ds) (new_line name)).air)
+    × (of_encoder ds ≡ [] → air_shown l ≡ l.answered)
+
+-- Law: as its studio was answered, on the air is what the messages say that were acknowledged, each once and in order,
+-- and nothing else: of all of them, or of those since it was in doubt last what the encoder has.
+abbrev pub AsAnswered : Type 0
+AsAnswered = (ds : List Arrived) → All (λ d. is_in_doubt d.object ≡ false) ds
+    → ((name : List ℕ) → (line_behind ds (new_line name)).answered ≡ behind_messages (acknowledged ds) no_air)
+    × ((before : List Arrived) (d : Arrived) (l : Line) → is_in_doubt d.object ≡ true
+    → (line_behind (before ++ d ∷ ds) l).answered ≡ behind_messages (acknowledged ds) no_air)

@@ -3,13 +3,14 @@ use Rattle.std.specs.Prelude.{ℕ, ◌+◌, ◌-◌, ◌^◌, min, Bool, true, L
 use Rattle.serde_json.specs.Data.{Data}
 use Rattle.page.specs.Members.{flag_at, number_or_0, says, is_flag}
 
--- Of one control line. Objects; by the studio's end the messages that were answered, and of these those that were
--- refused; by the encoder's end messages and empty messages, those that came again, those that were refused, segments
--- that were no frame, and connections; lines that an end could not tell.
+-- Of one control line. Objects; by the studio's end the messages that were answered, of these those that were refused,
+-- and the lines that it refused itself; by the encoder's end messages and empty messages, those that came again, those
+-- that were refused, segments that were no frame, and connections; lines that an end could not tell.
 pub record Counts : Type 0 where
   pub lines : ℕ
   pub sent : ℕ
   pub sent_refusals : ℕ
+  pub refused_lines : ℕ
   pub messages : ℕ
   pub empty : ℕ
   pub repeats : ℕ
@@ -23,6 +24,7 @@ no_counts = record {
   lines = 0;
   sent = 0;
   sent_refusals = 0;
+  refused_lines = 0;
   messages = 0;
   empty = 0;
   repeats = 0;
@@ -42,6 +44,10 @@ is_kind kind d = says (codes "kind") kind d
 -- The studio's end tells what became of a message that it sent.
 abbrev pub is_sent : Data → Bool
 is_sent d = is_kind (codes "answer") d
+
+-- The studio's end refused a line that it was given: nothing of it was sent.
+abbrev pub is_refused_line : Data → Bool
+is_refused_line d = is_kind (codes "line_refused") d
 
 -- The encoder's end tells a frame with no message in it, as joining sends 255 of them.
 abbrev pub is_empty : Data → Bool
@@ -80,6 +86,7 @@ counted d c = record {
   lines = one_more true c.lines;
   sent = one_more (is_sent d) c.sent;
   sent_refusals = one_more (is_sent d && has_bad_code d) c.sent_refusals;
+  refused_lines = one_more (is_refused_line d) c.refused_lines;
   messages = one_more (is_message d) c.messages;
   empty = one_more (is_empty d) c.empty;
   repeats = one_more (is_repeat d) c.repeats;

@@ -2,11 +2,14 @@
 pub mod Members
 pub mod Shown
 pub mod Counts
+pub mod Minutes
 pub mod Air
+pub mod Answered
 pub mod Link
 pub mod ControlLine
 pub mod State
 pub mod CardLaws
+pub mod MinuteLaws
 pub mod Taking
 pub mod StateView
 pub mod Silence

@@ -1,10 +1,10 @@
--- What the ends of a control line tell of it: its connection, the last refusal, a save that failed (profile).
+-- What the ends of a control line tell of it: its connection, the last refusals, a save that failed (profile).
 use Rattle.std.specs.Prelude.{ℕ, Bool, true, false, ◌&&◌, ◌||◌, List, codes, Option, Some, None, if◌then◌else◌}
 use Rattle.serde_json.specs.Data.{Data}
 use Rattle.page.specs.declared.state.link.Link.{Link}
 use Rattle.page.specs.declared.state.link.Link.TheVariants.{Connected, NoConnection, Lost, AnswersNothing, GivenUp}
-use Rattle.page.specs.Members.{text_at, says}
-use Rattle.page.specs.Counts.{is_kind, is_sent, is_new_answer, has_bad_code}
+use Rattle.page.specs.Members.{text_at, number_at, says}
+use Rattle.page.specs.Counts.{is_kind, is_sent, is_refused_line, is_new_answer, has_bad_code}
 
 -- What was told last of the connection, and the time of the object since which that is so; None where it had none.
 pub record Linked : Type 0 where
@@ -85,6 +85,28 @@ refused_after d before =
       meaning = text_at (codes "meaning") d;
       time = text_at (codes "time") d;
     }) else None)
+    else before
+
+-- What was told of a line that the studio's end was given and refused: its number, the column at which it is wrong,
+-- what is wrong with it, its text, and the time.
+pub record RefusedLine : Type 0 where
+  pub number : Option ℕ
+  pub column : Option ℕ
+  pub meaning : Option (List ℕ)
+  pub text : Option (List ℕ)
+  pub time : Option (List ℕ)
+
+-- The last line that was refused, until a message was answered behind it.
+abbrev pub refused_line_after : Data → Option RefusedLine → Option RefusedLine
+refused_line_after d before =
+    if is_refused_line d then Some (record {
+      number = number_at (codes "number") d;
+      column = number_at (codes "column") d;
+      meaning = text_at (codes "meaning") d;
+      text = text_at (codes "text") d;
+      time = text_at (codes "time") d;
+    })
+    else if is_sent d then None
     else before
 
 -- The encoder could not save its state; over once it is connected again, or tells its store.

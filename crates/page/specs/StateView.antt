@@ -4,14 +4,17 @@ use Rattle.serde_json.specs.View.{view}
 use Rattle.page.specs.declared.state.row.Row.{Row}
 use Rattle.page.specs.declared.state.counts.Counts.{Counts as Counted}
 use Rattle.page.specs.declared.state.air.Air.{Air as AirKept}
+use Rattle.page.specs.declared.state.minutes.Minutes.{Minutes as MinutesKept}
 use Rattle.page.specs.declared.state.link.Linked.{Linked as LinkKept}
 use Rattle.page.specs.declared.state.link.Refusal.{Refusal as RefusalKept}
+use Rattle.page.specs.declared.state.link.RefusedLine.{RefusedLine as RefusedLineKept}
 use Rattle.page.specs.declared.state.line.Line.{Line as LineKept}
 use Rattle.page.specs.declared.state.page.Page.{Page}
 use Rattle.page.specs.Shown.{Service}
 use Rattle.page.specs.Counts.{Counts}
 use Rattle.page.specs.Air.{Air}
-use Rattle.page.specs.Link.{Linked, Refusal}
+use Rattle.page.specs.Minutes.{Minutes}
+use Rattle.page.specs.Link.{Linked, Refusal, RefusedLine}
 use Rattle.page.specs.ControlLine.{Line}
 use Rattle.page.specs.State.{State}
 
@@ -33,6 +36,7 @@ counts_of c = record {
   lines = c.lines;
   sent = c.sent;
   sent_refusals = c.sent_refusals;
+  refused_lines = c.refused_lines;
   messages = c.messages;
   empty = c.empty;
   repeats = c.repeats;
@@ -50,22 +54,38 @@ air_of a = record {
   frame = option_map view a.frame;
 }
 
+abbrev pub minutes_of : MinutesKept → Minutes
+minutes_of m = record { numbers = m.numbers; counts = m.counts }
+
 abbrev pub linked_of : LinkKept → Linked
 linked_of l = record { link = l.link; since = option_map string_bytes l.since }
 
 abbrev pub refusal_of : RefusalKept → Refusal
 refusal_of r = record { meaning = option_map string_bytes r.meaning; time = option_map string_bytes r.time }
 
+abbrev pub refused_line_of : RefusedLineKept → RefusedLine
+refused_line_of r = record {
+  number = r.number;
+  column = r.column;
+  meaning = option_map string_bytes r.meaning;
+  text = option_map string_bytes r.text;
+  time = option_map string_bytes r.time;
+}
+
 abbrev pub line_of : LineKept → Line
 line_of l = record {
   name = string_bytes l.name;
   air = air_of l.air;
+  answered = air_of l.answered;
+  has_encoder = l.has_encoder;
   counts = counts_of l.counts;
   linked = option_map linked_of l.linked;
   refused = option_map refusal_of l.refused;
+  refused_line = option_map refused_line_of l.refused_line;
   failed = l.failed;
   heard = option_map string_bytes l.heard;
   told_at = l.told_at;
+  minutes = minutes_of l.minutes;
 }
 
 abbrev pub state_of : Page → State

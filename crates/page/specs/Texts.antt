@@ -2,16 +2,17 @@
 use Rattle.std.specs.Prelude.{ℕ, ◌==◌, Bool, List, [], ◌∷◌, ◌++◌, length, codes, decimal, Option, Some, None}
 use Rattle.std.specs.Prelude.{option_map, flat_map, if◌then◌else◌}
 use Rattle.serde_json.specs.Data.{Data, null, boolean, number, unsigned, string, array, object, Items, no_items, item}
-use Rattle.serde_json.specs.Data.{no_members, member}
+use Rattle.serde_json.specs.Data.{Members, no_members, member}
 use Rattle.page.specs.Shown.{Service}
 use Rattle.page.specs.Counts.{Counts}
 use Rattle.page.specs.declared.state.metrics.Metric.{Metric}
 use Rattle.page.specs.declared.state.metrics.Metric.TheVariants.{Lines, Sent, SentRefusals, Messages, Repeats}
 use Rattle.page.specs.declared.state.metrics.Metric.TheVariants.{Refusals, Dropped, Connections, NotTold, Connected}
-use Rattle.page.specs.declared.state.metrics.Metric.TheVariants.{Refused, Silent}
+use Rattle.page.specs.declared.state.metrics.Metric.TheVariants.{Refused, RefusedLines, Silent}
 use Rattle.page.specs.declared.state.silence.Moment.{Moment}
-use Rattle.page.specs.Link.{Linked, Refusal, link_kind, is_bad}
-use Rattle.page.specs.ControlLine.{Line}
+use Rattle.page.specs.Link.{Linked, Refusal, RefusedLine, link_kind, is_bad}
+use Rattle.page.specs.ControlLine.{Line, air_shown}
+use Rattle.page.specs.Minutes.{minute_of, last_hour}
 use Rattle.page.specs.Silence.{silent, is_stale}
 use Rattle.page.specs.State.{State}
 
@@ -44,9 +45,11 @@ counts_data c = object (member (codes "connections") (number (unsigned c.connect
     (member (codes "dropped") (number (unsigned c.dropped)) (member (codes "empty") (number (unsigned c.empty))
     (member (codes "lines") (number (unsigned c.lines)) (member (codes "messages") (number (unsigned c.messages))
     (member (codes "not_told") (number (unsigned c.not_told))
-    (member (codes "refusals") (number (unsigned c.refusals)) (member (codes "repeats") (number (unsigned c.repeats))
+    (member (codes "refusals") (number (unsigned c.refusals))
+    (member (codes "refused_lines") (number (unsigned c.refused_lines))
+    (member (codes "repeats") (number (unsigned c.repeats))
     (member (codes "sent") (number (unsigned c.sent))
-    (member (codes "sent_refusals") (number (unsigned c.sent_refusals)) no_members))))))))))
+    (member (codes "sent_refusals") (number (unsigned c.sent_refusals)) no_members)))))))))))
 
 -- What was told of the connection: the kind of the objects that tell it, and since when; null where nothing was.
 abbrev pub link_data : Option Linked → Data
@@ -62,15 +65,42 @@ refused_data None = null
 refused_data (Some r) =
     object (member (codes "meaning") (text_data r.meaning) (member (codes "time") (text_data r.time) no_members))
 
+abbrev pub numbers_data : List ℕ → Items
+numbers_data [] = no_items
+numbers_data (n ∷ ns) = item (number (unsigned n)) (numbers_data ns)
+
+-- The last line, where it was refused; null where it was not.
+abbrev pub refused_line_data : Option RefusedLine → Data
+refused_line_data None = null
+refused_line_data (Some r) = object (member (codes "column") (number_data r.column)
+    (member (codes "meaning") (text_data r.meaning) (member (codes "number") (number_data r.number)
+    (member (codes "text") (text_data r.text) (member (codes "time") (text_data r.time) no_members)))))
+
+-- By which end it is known what is on the air.
+abbrev pub end_of : (has_encoder : Bool) → List ℕ
+end_of has_encoder = if has_encoder then codes "encoder" else codes "studio"
+
 -- A control line as an object, where the page's clock says now.
 abbrev pub line_data : (now : ℕ) → Line → Data
 line_data now l = object (member (codes "counts") (counts_data l.counts)
-    (member (codes "current") (number (unsigned l.air.current)) (member (codes "failed") (boolean l.failed)
+    (member (codes "current") (number (unsigned (air_shown l).current))
+    (member (codes "end") (string (end_of l.has_encoder)) (member (codes "failed") (boolean l.failed)
     (member (codes "heard") (text_data l.heard) (member (codes "line") (string l.name)
-    (member (codes "link") (link_data l.linked) (member (codes "refused") (refused_data l.refused)
-    (member (codes "services") (array (services_data l.air.services))
+    (member (codes "link") (link_data l.linked)
+    (member (codes "minutes") (array (numbers_data (last_hour (minute_of now) l.minutes)))
+    (member (codes "refused") (refused_data l.refused)
+    (member (codes "refused_line") (refused_line_data l.refused_line)
+    (member (codes "services") (array (services_data (air_shown l).services))
     (member (codes "silent") (number (unsigned (silent now l)))
-    (member (codes "since") (since_data l.linked) no_members))))))))))
+    (member (codes "since") (since_data l.linked) no_members)))))))))))))
+
+-- The members that come first of these.
+abbrev pub line_head : Line → Members
+line_head l = member (codes "counts") (counts_data l.counts)
+    (member (codes "current") (number (unsigned (air_shown l).current))
+    (member (codes "end") (string (end_of l.has_encoder)) (member (codes "failed") (boolean l.failed)
+    (member (codes "heard") (text_data l.heard) (member (codes "line") (string l.name)
+    (member (codes "link") (link_data l.linked) no_members))))))
 
 abbrev pub lines_data : (now : ℕ) → List Line → Items
 lines_data now [] = no_items
@@ -120,6 +150,7 @@ abbrev pub value_of : Metric → Line → Option ℕ
 value_of Lines l = Some l.counts.lines
 value_of Sent l = Some l.counts.sent
 value_of SentRefusals l = Some l.counts.sent_refusals
+value_of RefusedLines l = Some l.counts.refused_lines
 value_of Messages l = Some l.counts.messages
 value_of Repeats l = Some l.counts.repeats
 value_of Refusals l = Some l.counts.refusals
@@ -172,11 +203,12 @@ counted_texts ls =
     count_of (codes "uecp_lines_total") (codes "Objects that were taken.") Lines ls
     ++ (both_of (codes "uecp_messages_total") (codes "Messages that an end of the line told.") Sent Messages ls
     ++ (both_of (codes "uecp_refusals_total") (codes "Messages that were refused with a code.") SentRefusals Refusals ls
+    ++ (count_of (codes "uecp_refused_lines_total") (codes "Lines that the studio's end refused.") RefusedLines ls
     ++ (count_of (codes "uecp_repeats_total") (codes "Messages that came again.") Repeats ls
     ++ (count_of (codes "uecp_dropped_segments_total") (codes "Segments that were no frame.") Dropped ls
     ++ (count_of (codes "uecp_connections_total") (codes "Connections to an encoder.") Connections ls
     ++ count_of (codes "uecp_not_told_lines_total") (codes "Lines that an end could not tell, as nobody read them.")
-    NotTold ls)))))
+    NotTold ls))))))
 
 -- How each stands now.
 abbrev pub standing_texts : (now : ℕ) → List Line → List ℕ

@@ -2,8 +2,9 @@
 ghost use Rattle.std.specs.Prelude.{◌≡◌};
 ghost use Rattle.page.specs.Stream.{part_text, gap, alive};
 ghost use Rattle.page.specs.Laws.{TakenAsSent, EachOnce, BeginningOnce, OwedNewer};
-ghost use Rattle.page.specs.CardLaws.{LineAlone, LineOnce, StoreClears, MainOnce, CountedOnce};
+ghost use Rattle.page.specs.CardLaws.{LineAlone, LineOnce, StoreClears, MainOnce, CountedOnce, OneEnd, AsAnswered};
 ghost use Rattle.page.specs.Life.{WholeLife};
+ghost use Rattle.page.specs.MinuteLaws.{MinuteExactly};
 ghost use Rattle.page.specs.StaleLaws.{StaleExactly, HealthExactly};
 ghost use Rattle.page.specs.Lines.{EachLineOnce, AllLinesAtEnd};
 ghost use Rattle.page.specs.Input.{RefusedExactly};
@@ -35,6 +36,23 @@ pub fn main_once()
 /// No object counts as a message under both ends, and what was sent rises by nothing but an answer.
 pub fn counted_once()
     ensures { CountedOnce }
+{}
+
+/// Where the encoder's end told anything of a control line, what is shown is what it told, whatever its studio was
+/// answered; where only the studio's end tells, it is shown as that was answered.
+pub fn one_end()
+    ensures { OneEnd }
+{}
+
+/// As its studio was answered, on the air is what the messages say that were acknowledged, each once and in order, and
+/// nothing else: of all of them, or of those since it was in doubt last what the encoder has.
+pub fn as_answered()
+    ensures { AsAnswered }
+{}
+
+/// What is told of a minute of the last hour is how many objects count as messages and came in it, whenever one asks.
+pub fn minute_exactly()
+    ensures { MinuteExactly }
 {}
 
 /// A control line is stale exactly where as many seconds as the limit says have gone by, by the page's clock, since the

@@ -13,6 +13,7 @@ mod line;
 mod link;
 mod members;
 mod metrics;
+mod minutes;
 mod page;
 mod row;
 mod services;

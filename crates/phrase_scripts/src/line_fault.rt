@@ -6,7 +6,7 @@ use crate::frame_line::frame_expected;
 use phrase_tokens::{Token, Unread, column_of};
 use rds_text::Region;
 use std::alloc::{AllocError, Global};
-use uecp_phrases::expected_in;
+use uecp_phrases::{Expectation, expected_in};
 use uecp_text::{TextFault, Unsaid};
 
 /// The fault of a line that is no UTF-8.
@@ -75,6 +75,12 @@ fn said_of(reason: Unread) -> &'static str {
     }
 }
 
+/// What is said of a comma between phrases.
+const COMMA: &str = "ends no phrase: a semicolon does";
+
+/// What was expected where no phrase begins, and no word is near.
+const NO_PHRASE: &str = "the first word of a phrase: uecp help phrases tells them";
+
 /// The fault of a line whose tokens tell nothing.
 pub(crate) fn unsaid(
     alloc: Global,
@@ -91,7 +97,15 @@ pub(crate) fn unsaid(
         }
         _ => {
             let expected = expected_in(alloc, region, tokens)?;
-            (expected.index, expected.what.text(), expected.nearest)
+            if let Some(behind) = comma_in(tokens.get(expected.index)) {
+                let column = column_of(characters, expected.index).saturating_add(behind);
+                return Ok(unsaid_at(characters, column, COMMA));
+            }
+            (
+                expected.index,
+                text_of(expected.what, expected.nearest),
+                expected.nearest,
+            )
         }
     };
     Ok(TextFault::Unsaid(Unsaid {
@@ -100,4 +114,20 @@ pub(crate) fn unsaid(
         what,
         nearest,
     }))
+}
+
+/// Behind how many characters of a token its comma stands, where it is a word that ends with one.
+fn comma_in(token: Option<&Token>) -> Option<usize> {
+    match token?.word()? {
+        [before @ .., b','] => Some(before.len()),
+        _ => None,
+    }
+}
+
+/// What was expected; of the first word of a phrase also where the phrases are told, where no word is near.
+fn text_of(what: Expectation, nearest: Option<&'static str>) -> &'static str {
+    match what {
+        Expectation::FirstWord if nearest.is_none() => NO_PHRASE,
+        other => other.text(),
+    }
 }

@@ -65,34 +65,34 @@ told_in_words region first (code ∷ codes) = (
   refl,
 )
 
-told_in_objects : (stamp : List ℕ) → IsStamp stamp → (tries milliseconds first : ℕ) (counters : List ℕ)
-    (codes : List Code) → length counters ≡ length codes
-    → AreAnswers Json first (replied codes) (objects.answer_lines stamp tries milliseconds first counters codes)
+told_in_objects : (stamp : List ℕ) → IsStamp stamp → (tries milliseconds first : ℕ) (sent : List (ℕ × List ℕ))
+    (codes : List Code) → length sent ≡ length codes
+    → AreAnswers Json first (replied codes) (objects.answer_lines stamp tries milliseconds first sent codes)
 told_in_objects stamp is_stamp tries milliseconds first [] [] same = refl
-told_in_objects stamp is_stamp tries milliseconds first (counter ∷ counters) [] same = refl
+told_in_objects stamp is_stamp tries milliseconds first (one ∷ sent) [] same = refl
 told_in_objects stamp is_stamp tries milliseconds first [] (code ∷ codes) same = absurd (omega arith)
-told_in_objects stamp is_stamp tries milliseconds first (counter ∷ counters) (code ∷ codes) same = (
-  objects.answer_line stamp tries milliseconds first counter code,
-  objects.answer_lines stamp tries milliseconds (first + 1) counters codes,
-  (stamp, counter, tries, milliseconds, is_stamp, refl),
-  told_in_objects stamp is_stamp tries milliseconds (first + 1) counters codes
-      (let less : length counters ≡ length codes = omega arith in less),
+told_in_objects stamp is_stamp tries milliseconds first (one ∷ sent) (code ∷ codes) same = (
+  objects.answer_line stamp tries milliseconds first one code,
+  objects.answer_lines stamp tries milliseconds (first + 1) sent codes,
+  (stamp, one, tries, milliseconds, is_stamp, refl),
+  told_in_objects stamp is_stamp tries milliseconds (first + 1) sent codes
+      (let less : length sent ≡ length codes = omega arith in less),
   refl,
 )
 
--- the replies to messages under so many counters are their answers
-pub replies_told : (form : Form) (first : ℕ) (counters : List ℕ) (settled : Settled) (told : List ℕ)
-    → length counters ≡ length settled.codes.items → AreReplies form first counters settled told
+-- the replies to so many messages are their answers
+pub replies_told : (form : Form) (first : ℕ) (sent : List (ℕ × List ℕ)) (settled : Settled) (told : List ℕ)
+    → length sent ≡ length settled.codes.items → AreReplies form first sent settled told
     → AreAnswers form first (replied settled.codes.items) told
-replies_told Lines first counters settled told same is =
+replies_told Lines first sent settled told same is =
     subst (λ l. AreAnswers Lines first (replied settled.codes.items) l) (sym is)
     (told_in_lines first settled.codes.items)
-replies_told (Words region) first counters settled told same is =
+replies_told (Words region) first sent settled told same is =
     subst (λ l. AreAnswers (Words region) first (replied settled.codes.items) l) (sym is)
     (told_in_words region first settled.codes.items)
-replies_told Json first counters settled told same (stamp, milliseconds, is_stamp, is) =
+replies_told Json first sent settled told same (stamp, milliseconds, is_stamp, is) =
     subst (λ l. AreAnswers Json first (replied settled.codes.items) l) (sym is)
-    (told_in_objects stamp is_stamp settled.tries milliseconds first counters settled.codes.items same)
+    (told_in_objects stamp is_stamp settled.tries milliseconds first sent settled.codes.items same)
 
 -- so many messages that are unknown, as answers
 abbrev pub unknown : ℕ → List (Option Code)

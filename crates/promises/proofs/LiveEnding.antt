@@ -12,6 +12,8 @@ use Rattle.line_batches.specs.declared.intake.Given.{Given}
 use Rattle.line_batches.specs.declared.taking.After.TheVariants.{GoesOn}
 use Rattle.line_feed.specs.declared.feed.Next.{Next}
 use Rattle.line_feed.specs.declared.feed_fault.FeedFault.{FeedFault}
+use Rattle.line_feed.specs.declared.feed_fault.NotKept.{NotKept}
+use Rattle.line_feed.specs.Lines.{Refusal}
 use Rattle.line_batches.specs.Intake.{Intake, FeedIntake, seen}
 use Rattle.line_batches.proofs.Public.{is_seen}
 use Rattle.sending.specs.Run.{tally_status}
@@ -60,24 +62,27 @@ status_where_done went taken applied said' status lines answers on refused all (
 
 module _ {D C I O K : Type 0} (unread : D → Option (List ℕ))
     (takes : D → Result Next FeedFault → List ℕ → D → Type 0) (says : D → Bool → D → Type 0)
+    (passes : D → Refusal → Result (Unit {0}) NotKept → D → Type 0)
     (opens : C → Option (I × O) → C → Type 0) (closes : C → I → O → C → Type 0)
     (remaining : I → Option (List ℕ)) (contents : O → Option (List ℕ)) (leaves : K → KeptServer → Type 0)
     (is_clean : K → Type 0) (saves fails : K → KeptServer → K → Type 0) where
   -- where a run stands at its start
-  abbrev begins_at : Standing ServerState K → (left : Option (List ℕ)) → (said : Told) → Live ServerState K
-  begins_at x left said = record {
+  abbrev begins_at : LiveOptions → Standing ServerState K → (left : Option (List ℕ)) → (said : Told)
+      → Live ServerState K
+  begins_at options x left said = record {
     sends = x;
-    takes = at_start left said;
+    takes = at_start options left said;
     applied = true;
     unknown = 0;
     behind = GoesOn;
   }
 
   -- so, with its feed
-  abbrev fed_at : Standing ServerState K → (feed : D) → (said : Told) → over.Live (FeedIntake D) ServerState K
-  fed_at x feed said = record {
+  abbrev fed_at : LiveOptions → Standing ServerState K → (feed : D) → (said : Told)
+      → over.Live (FeedIntake D) ServerState K
+  fed_at options x feed said = record {
     sends = x;
-    takes = record { feed = feed; lines = 0; refused = false; said = said };
+    takes = record { feed = feed; lines = options.lines_before; refused = false; said = said };
     applied = true;
     unknown = 0;
     behind = GoesOn;
@@ -86,22 +91,24 @@ module _ {D C I O K : Type 0} (unread : D → Option (List ℕ))
   -- what is seen of a run
   by_sight : (options : LiveOptions) (c c' : C) (x : Standing ServerState K) (k' : K) (held' : Option (List ℕ))
       (feed : D) (said : Told) (end : FeedIntake D) (applied : Bool) (went : Went)
-      → over.LivesFrom (over.FromFeed unread takes says) opens closes remaining contents leaves is_clean saves fails
-      options c c' (fed_at x feed said) k' held' end applied went
+      → over.LivesFrom (over.FromFeed unread takes says passes) opens closes remaining contents leaves is_clean saves
+      fails
+      options c c' (fed_at options x feed said) k' held' end applied went
       → LivesFrom opens closes remaining contents leaves is_clean saves fails options c c'
-      (begins_at x (unread feed) said) k' held' (seen unread end) applied went
+      (begins_at options x (unread feed) said) k' held' (seen unread end) applied went
   by_sight options c c' x k' held' feed said end applied went lives =
       from_seen opens closes remaining contents leaves is_clean saves fails (seen unread)
-      (over.FromFeed unread takes says) InSight
-      (λ reading messages after i i'. is_seen unread takes says reading.input reading.size reading.strict messages
-      after i i') options c c' (fed_at x feed said) k' held' end applied went lives
+      (over.FromFeed unread takes says passes) InSight
+      (λ reading messages after i i'. is_seen unread takes says passes reading.input reading.size reading.strict
+      messages
+      after i i') options c c' (fed_at options x feed said) k' held' end applied went lives
 
-  pub done_is_kept_lem : DoneIsKept unread takes says opens closes remaining contents leaves is_clean saves fails
+  pub done_is_kept_lem : DoneIsKept unread takes says passes opens closes remaining contents leaves is_clean saves fails
   done_is_kept_lem options c c' x k' held' feed feed' said said' status
       (went, end, applied, lives, feed_is, ended) done =
       let run = by_sight options c c' x k' held' feed said end applied went lives in
       let w = whole opens closes remaining contents leaves is_clean saves fails options c c'
-      (begins_at x (unread feed) said) k' held' (seen unread end) applied went run in
+      (begins_at options x (unread feed) said) k' held' (seen unread end) applied went run in
       let on : goes ≡ went = on_where_done went (seen unread end) applied said' status done w.status ended in (
         w.lines,
         record {
@@ -114,13 +121,14 @@ module _ {D C I O K : Type 0} (unread : D → Option (List ℕ))
         w.has_taken on,
       )
 
-  pub what_a_crash_leaves_lem : WhatACrashLeaves unread takes says opens closes remaining contents leaves is_clean saves
+  pub what_a_crash_leaves_lem : WhatACrashLeaves unread takes says passes opens closes remaining contents leaves
+      is_clean saves
       fails
   what_a_crash_leaves_lem options c c' x k' held' feed feed' said said' status
       (went, end, applied, lives, feed_is, ended) =
       let run = by_sight options c c' x k' held' feed said end applied went lives in
       let w = whole opens closes remaining contents leaves is_clean saves fails options c c'
-      (begins_at x (unread feed) said) k' held' (seen unread end) applied went run in (
+      (begins_at options x (unread feed) said) k' held' (seen unread end) applied went run in (
         w.lines,
         record {
           last = w.mid;
@@ -133,15 +141,16 @@ module _ {D C I O K : Type 0} (unread : D → Option (List ℕ))
         w.outlives,
       )
 
-  pub told_is_taken_lem : ToldIsTaken unread takes says opens closes remaining contents leaves is_clean saves fails
+  pub told_is_taken_lem : ToldIsTaken unread takes says passes opens closes remaining contents leaves is_clean saves
+      fails
   told_is_taken_lem options c c' x k' held' feed feed' said said' status
       (went, end, applied, lives, feed_is, ended) done =
       let run = by_sight options c c' x k' held' feed said end applied went lives in
       let w = whole opens closes remaining contents leaves is_clean saves fails options c c'
-      (begins_at x (unread feed) said) k' held' (seen unread end) applied went run in
+      (begins_at options x (unread feed) said) k' held' (seen unread end) applied went run in
       let on : goes ≡ went = on_where_done went (seen unread end) applied said' status done w.status ended in
       let t = whole_told opens closes remaining contents leaves is_clean saves fails options c c'
-      (begins_at x (unread feed) said) k' held' (seen unread end) applied went run on in (
+      (begins_at options x (unread feed) said) k' held' (seen unread end) applied went run on in (
         t.lines,
         record {
           last = t.mid;
@@ -156,14 +165,17 @@ module _ {D C I O K : Type 0} (unread : D → Option (List ℕ))
         (t.again, t.once, t.tells),
         t.appended,
         status_where_done went (seen unread end) applied said' status t.lines t.answers on
-            (refused_in_all options.reading.input options.reading.strict t.lines (at_start (unread feed) said) t.mid
+            (refused_in_all options.reading.input options.reading.strict t.lines (at_start options (unread feed) said)
+            t.mid
             (seen unread end) refl t.takes t.ends) t.applied ended,
       )
 
-  pub taken_in_batches_lem : TakenInBatches unread takes says opens closes remaining contents leaves is_clean saves
+  pub taken_in_batches_lem : TakenInBatches unread takes says passes opens closes remaining contents leaves is_clean
+      saves
       fails
   taken_in_batches_lem options c c' x k' held' feed feed' said said' status
       (went, end, applied, lives, feed_is, ended) =
-      let (batches, are) = in_all (over.FromFeed unread takes says) opens closes remaining contents leaves is_clean
-      saves fails options c c' (fed_at x feed said) k' held' end applied went lives in
+      let (batches, are) = in_all (over.FromFeed unread takes says passes) opens closes remaining contents leaves
+      is_clean
+      saves fails options c c' (fed_at options x feed said) k' held' end applied went lives in
       (batches, end, are, feed_is)

@@ -9,7 +9,7 @@ use Rattle.line_batches.specs.declared.taking.After.{After}
 use Rattle.line_batches.specs.declared.taking.After.TheVariants.{GoesOn, Ends}
 use Rattle.line_batches.specs.Intake.{Intake, TakesLines, FailsToTake, message_of, messages_in, is_refusal}
 use Rattle.line_batches.specs.Intake.{has_refused}
-use Rattle.line_batches.specs.Batches.{EndsRefused, LosesMessage, NoneRefused}
+use Rattle.line_batches.specs.Batches.{EndsRefused, LeavesLine, NoneRefused}
 use Rattle.line_batches.specs.Laws.{IsAfter}
 use Rattle.promises.specs.Taken.{Pauses, ComesToEnd, Passes}
 
@@ -39,7 +39,7 @@ same_fault a b is =
 -- however a batch ended, the taking of lines came to a stop
 pub pauses_after : (input : Input) (strict : Bool) (taken : List (List ℕ × Given)) (y z : Intake) (after : After)
     → IsAfter input strict taken y z after
-    ⊎ ((fault : RunFault) × (after ≡ Ends (Err fault)) × (FailsToTake y z fault ⊎ LosesMessage input y z fault)
+    ⊎ ((fault : RunFault) × (after ≡ Ends (Err fault)) × (FailsToTake y z fault ⊎ LeavesLine input y z fault)
     × NoneRefused strict taken)
     → Pauses input y z
 pauses_after input strict taken y z GoesOn (inl (some, passed, same)) = inl same
@@ -51,7 +51,7 @@ pauses_after input strict taken y z after (inr (fault, is, why, passed)) = inr (
 -- behind a batch that goes on no more was taken
 pub goes_on_after : (input : Input) (strict : Bool) (taken : List (List ℕ × Given)) (y z : Intake)
     → IsAfter input strict taken y z GoesOn
-    ⊎ ((fault : RunFault) × (GoesOn ≡ Ends (Err fault)) × (FailsToTake y z fault ⊎ LosesMessage input y z fault)
+    ⊎ ((fault : RunFault) × (GoesOn ≡ Ends (Err fault)) × (FailsToTake y z fault ⊎ LeavesLine input y z fault)
     × NoneRefused strict taken)
     → (z ≡ y) × NoneRefused strict taken
 goes_on_after input strict taken y z (inl (some, passed, same)) = (same, passed)
@@ -97,7 +97,7 @@ passes_on strict a b before (inr (is_strict, refused)) =
 
 pub passes_after : (input : Input) (strict : Bool) (taken : List (List ℕ × Given)) (y z : Intake) (after : After)
     → IsAfter input strict taken y z after
-    ⊎ ((fault : RunFault) × (after ≡ Ends (Err fault)) × (FailsToTake y z fault ⊎ LosesMessage input y z fault)
+    ⊎ ((fault : RunFault) × (after ≡ Ends (Err fault)) × (FailsToTake y z fault ⊎ LeavesLine input y z fault)
     × NoneRefused strict taken)
     → Passes strict taken
 passes_after input strict taken y z GoesOn (inl (some, passed, same)) = inl passed
@@ -110,7 +110,7 @@ passes_after input strict taken y z after (inr (fault, is, why, passed)) = inl p
 pub comes_to_end : (input : Input) (strict : Bool) (taken : List (List ℕ × Given)) (y z : Intake) (done : Unit {0})
     → IsAfter input strict taken y z (Ends (Ok done))
     ⊎ ((fault : RunFault) × (Ends (Ok done) ≡ Ends (Err fault))
-    × (FailsToTake y z fault ⊎ LosesMessage input y z fault)
+    × (FailsToTake y z fault ⊎ LeavesLine input y z fault)
     × NoneRefused strict taken)
     → ComesToEnd input strict taken y z
 comes_to_end input strict taken y z done (inl ends) = ends
@@ -127,18 +127,18 @@ end_pauses input strict lines y z (inr (is_strict, refused, same)) = inl same
 abbrev pub Stands : Input → (strict : Bool) → List (List ℕ × Given) → (y z : Intake) → After → Type 0
 Stands input strict lines y z GoesOn = (z ≡ y) × NoneRefused strict lines
 Stands input strict lines y z (Ends (Ok done)) = ComesToEnd input strict lines y z
-Stands input strict lines y z (Ends (Err fault)) = FailsToTake y z fault ⊎ LosesMessage input y z fault
+Stands input strict lines y z (Ends (Err fault)) = FailsToTake y z fault ⊎ LeavesLine input y z fault
 
 pub stands_after : (input : Input) (strict : Bool) (taken : List (List ℕ × Given)) (y z : Intake) (after : After)
     → IsAfter input strict taken y z after
-    ⊎ ((fault : RunFault) × (after ≡ Ends (Err fault)) × (FailsToTake y z fault ⊎ LosesMessage input y z fault)
+    ⊎ ((fault : RunFault) × (after ≡ Ends (Err fault)) × (FailsToTake y z fault ⊎ LeavesLine input y z fault)
     × NoneRefused strict taken)
     → Stands input strict taken y z after
 stands_after input strict taken y z GoesOn next = goes_on_after input strict taken y z next
 stands_after input strict taken y z (Ends (Ok done)) next = comes_to_end input strict taken y z done next
 stands_after input strict taken y z (Ends (Err fault)) (inl never) = absurd never
 stands_after input strict taken y z (Ends (Err fault)) (inr (other, is, why, passed)) =
-    subst (λ f. FailsToTake y z f ⊎ LosesMessage input y z f) (sym (same_fault fault other is)) why
+    subst (λ f. FailsToTake y z f ⊎ LeavesLine input y z f) (sym (same_fault fault other is)) why
 
 pub stands_on : (input : Input) (strict : Bool) (a b : List (List ℕ × Given)) (y z : Intake) (after : After)
     → NoneRefused strict a → Stands input strict b y z after → Stands input strict (a ++ b) y z after

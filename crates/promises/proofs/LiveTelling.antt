@@ -1,16 +1,15 @@
 -- What turns and senders tell.
 use Rattle.std.proofs.Common.{arith, ◌≡◌, ◌⊎◌, ℕ, zero, suc, ◌+◌, ◌-◌, ◌≤◌, Bool, true, false, ◌&&◌, List, [], ◌++◌}
-use Rattle.std.proofs.Common.{length, map}
+use Rattle.std.proofs.Common.{length}
 use Rattle.std.proofs.Common.{Option, Ok, Err, refl, sym, ap, subst, ◌∙◌, inl, inr, length-append}
 use Rattle.std.specs.Io.KnownBytes.{Appends}
 use Rattle.std.specs.List.{list_all}
-use Rattle.std.proofs.lemmas.List.{length-map}
 use Rattle.std.proofs.lemmas.List.Folds.{list_all-append}
 use Rattle.line_batches.specs.declared.intake.Input.{Input}
 use Rattle.uecp_elements.specs.declared.code.Code.{Code}
 use Rattle.uecp_text.specs.declared.run_fault.RunFault.TheVariants as run
 use Rattle.uecp_text.proofs.Public.{appends_nothing, appends_then}
-use Rattle.uecp_link.specs.Server.{waiting, waiting_among, counters_waiting, Held}
+use Rattle.uecp_link.specs.Server.{waiting}
 use Rattle.uecp_net.specs.declared.sender.Outstanding.TheVariants.{TriesSpent, ConnectionFailed}
 use Rattle.uecp_net.specs.declared.sender.Settled.{Settled}
 use Rattle.uecp_net.specs.Sending.{SenderOver, submitted_all}
@@ -125,24 +124,20 @@ module _ {C I O K : Type 0} (opens : C → Option (I × O) → C → Type 0) (cl
   all_told batch settled x x' idle (inr (is, same, failed)) =
       absurd (let no : Ok settled ≡ Err kept.StateFailed = is in cc)
 
-  count_waiting : (hs : List Held) → length (map (λ w. w.0) (waiting_among hs)) ≡ length (waiting_among hs)
-  count_waiting hs = length-map (waiting_among hs) (λ (w : ℕ × List ℕ). w.0)
-
-  -- as many counters wait as messages of a batch that an idle server takes
-  all_counters : (batch : List (List ℕ)) (x : At) → x.runs.sender.server.held ≡ []
-      → length (counters_waiting (submitted_all x.runs batch).sender.server) ≡ length batch
-  all_counters batch x idle =
+  -- as many messages wait as an idle server takes of a batch
+  all_waiting : (batch : List (List ℕ)) (x : At) → x.runs.sender.server.held ≡ []
+      → length (waiting (submitted_all x.runs batch).sender.server) ≡ length batch
+  all_waiting batch x idle =
       let wait = all_wait x.runs batch in
       let none : length (waiting x.runs.sender.server) ≡ 0 =
       ap (λ hs. length (waiting (record x.runs.sender.server { held = hs }))) idle in
-      let same = count_waiting (submitted_all x.runs batch).sender.server.held in
-      omega (arith, wait, none, same)
+      omega (arith, wait, none)
 
   told_batch : (batch : List (List ℕ)) (ended : Ended) (x x' : At) (was is : Bool) (unknown' : ℕ) (went : Went)
       → is ≡ was && are_applied ended → x.runs.sender.server.held ≡ []
       → SendsOne opens closes remaining contents leaves is_clean saves fails batch ended x x'
       → AnswersTold (RepliesOf form x'.progress.taken
-      (counters_waiting (submitted_all x.runs batch).sender.server)) x'.runs.sender.server.counts ended x.held x'.held
+      (waiting (submitted_all x.runs batch).sender.server)) x'.runs.sender.server.counts ended x.held x'.held
       went
       → unknown' ≡ unknown_of (length batch) ended → Onward went unknown' → Told x x' was is unknown'
   told_batch batch (Ok settled) x x' was is unknown' went apply idle one (told, is_told, tells) are onward =
@@ -156,8 +151,8 @@ module _ {C I O K : Type 0} (opens : C → Option (I × O) → C → Type 0) (cl
         lines = told;
         answers = subst (λ n. AreAnswers form n (replied settled.codes.items) told) first
             (replies_told form (x'.progress.taken + 1 - length settled.codes.items)
-            (counters_waiting (submitted_all x.runs batch).sender.server) settled told
-            (all_counters batch x idle ∙ sym number) is_told);
+            (waiting (submitted_all x.runs batch).sender.server) settled told
+            (all_waiting batch x idle ∙ sym number) is_told);
         appended = told_all told x.held x'.held went tells (goes_with_none went unknown' are onward);
         counted = omega (arith, number, taken, are);
         applied = λ all_so. both was (list_all is_applied settled.codes.items) (sym apply ∙ all_so);

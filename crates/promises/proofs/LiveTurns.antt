@@ -16,7 +16,7 @@ use Rattle.line_batches.specs.declared.intake.Given.{Given}
 use Rattle.line_batches.specs.declared.taking.After.{After}
 use Rattle.line_batches.specs.declared.taking.After.TheVariants.{GoesOn, Ends}
 use Rattle.line_batches.specs.Intake.{Intake, TakesLines, FailsToTake, messages_in}
-use Rattle.line_batches.specs.Batches.{LosesMessage, NoneRefused}
+use Rattle.line_batches.specs.Batches.{LeavesLine, NoneRefused}
 use Rattle.line_batches.specs.Laws.{IsAfter}
 use Rattle.output_forms.specs.declared.form.Form.{Form}
 use Rattle.sending.specs.Run.{ended_as}
@@ -46,7 +46,7 @@ module _ {C I O K : Type 0} (opens : C → Option (I × O) → C → Type 0) (cl
     abbrev Next : List (List ℕ × Given) → (y z : Intake) → After → Type 0
     Next taken y z after =
         IsAfter input strict taken y z after
-        ⊎ ((fault : RunFault) × (after ≡ Ends (Err fault)) × (FailsToTake y z fault ⊎ LosesMessage input y z fault)
+        ⊎ ((fault : RunFault) × (after ≡ Ends (Err fault)) × (FailsToTake y z fault ⊎ LeavesLine input y z fault)
         × NoneRefused strict taken)
 
     -- lines were taken up to there, and what they gave was sent

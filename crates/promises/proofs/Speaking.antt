@@ -6,7 +6,7 @@ use Rattle.std.specs.Io.KnownBytes.{Appends}
 use Rattle.std.specs.List.{list_all}
 use Rattle.uecp_elements.specs.declared.code.Code.{Code}
 use Rattle.uecp_text.proofs.Public.{appends_nothing, appends_then}
-use Rattle.uecp_link.specs.Server.{counters_waiting}
+use Rattle.uecp_link.specs.Server.{waiting}
 use Rattle.uecp_net.specs.declared.sender.Outstanding.TheVariants.{TriesSpent, ConnectionFailed}
 use Rattle.uecp_net.specs.declared.sender.Settled.{Settled as SettledSo}
 use Rattle.uecp_net.specs.Sending.{SenderOver}
@@ -82,7 +82,7 @@ module _ {C I O K : Type 0} (opens : C → Option (I × O) → C → Type 0) (cl
   IsHeldText form x text =
       (text ≡ []) ⊎ ((settled : SettledSo)
       × AreHeld form (x.progress.taken + 1 - length (marks_in x.runs.sender.server)) (marks_in x.runs.sender.server)
-      (counters_waiting x.runs.sender.server) settled text)
+      (waiting x.runs.sender.server) settled text)
 
   record Settled (form : Form) (x x' : At) (unknown' : ℕ) : Type 0 where
     pub text : List ℕ
@@ -108,7 +108,7 @@ module _ {C I O K : Type 0} (opens : C → Option (I × O) → C → Type 0) (cl
     where
       by : (ended : Ended) → x'.progress.taken ≡ x.progress.taken
           → AnswersTold (AreHeld form (x'.progress.taken + 1 - length (marks_in x.runs.sender.server))
-          (marks_in x.runs.sender.server) (counters_waiting x.runs.sender.server)) x'.runs.sender.server.counts ended
+          (marks_in x.runs.sender.server) (waiting x.runs.sender.server)) x'.runs.sender.server.counts ended
           x.held x'.held goes
           → unknown' ≡ unknown_of (length (marks_in x.runs.sender.server)) ended → Settled form x x' unknown'
       by (Ok settled) taken (told, is_told, tells) are = record {
@@ -116,7 +116,7 @@ module _ {C I O K : Type 0} (opens : C → Option (I × O) → C → Type 0) (cl
         is_text = inr (
           settled,
           subst (λ n. AreHeld form (n + 1 - length (marks_in x.runs.sender.server)) (marks_in x.runs.sender.server)
-              (counters_waiting x.runs.sender.server) settled told) taken is_told,
+              (waiting x.runs.sender.server) settled told) taken is_told,
         );
         appended = told_all told x.held x'.held goes tells refl;
         taken = taken;
@@ -145,7 +145,7 @@ module _ {C I O K : Type 0} (opens : C → Option (I × O) → C → Type 0) (cl
     where
       by : (ended : Ended) → x'.progress.taken ≡ x.progress.taken
           → AnswersTold (AreHeld form (x'.progress.taken + 1 - length (marks_in x.runs.sender.server))
-          (marks_in x.runs.sender.server) (counters_waiting x.runs.sender.server)) x'.runs.sender.server.counts ended
+          (marks_in x.runs.sender.server) (waiting x.runs.sender.server)) x'.runs.sender.server.counts ended
           x.held x'.held (stopped stop)
           → unknown' ≡ unknown_of (length (marks_in x.runs.sender.server)) ended → Unsettled x x' unknown'
       by (Ok settled) taken tells are = absurd (omega (arith, are, many))

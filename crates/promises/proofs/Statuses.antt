@@ -18,7 +18,7 @@ use Rattle.kept_jobs.specs.declared.stop.KeptStop.TheVariants.{Run, Unanswered, 
 use Rattle.kept_jobs.specs.Stops.{TellsKept, stop_status, stop_for, heard_nothing}
 use Rattle.kept_jobs.proofs.Public.{goes, stopped, goes_not_stopped, same_status, told_status}
 use Rattle.line_batches.specs.Intake.{Intake, FailsToTake}
-use Rattle.line_batches.specs.Batches.{LosesMessage}
+use Rattle.line_batches.specs.Batches.{LeavesLine}
 use Rattle.output_forms.specs.declared.form.Form.{Form}
 use Rattle.sending.specs.Forms.{not_joined_in}
 use Rattle.sending.specs.Run.{AnswersTold, tally_status}
@@ -65,8 +65,9 @@ joined_status form lines (Err kept.StateFailed) held held' stop (same, is) = sam
 
 -- a read that fails, and want of memory, have status 3
 pub taking_status : (input : Input) (x x' : Intake) (fault : RunFault)
-    → FailsToTake x x' fault ⊎ LosesMessage input x x' fault → stop_status (Run fault) ≡ 3
-taking_status input x x' fault (inr (is, lost)) = ap status_of is
+    → FailsToTake x x' fault ⊎ LeavesLine input x x' fault → stop_status (Run fault) ≡ 3
+taking_status input x x' fault (inr (line, given, taken, inl (is, is_message))) = ap status_of is
+taking_status input x x' fault (inr (line, given, taken, inr (is, refused))) = ap status_of is
 taking_status input x x' run.Reading (inl fails) = refl
 taking_status input x x' run.OutOfMemory (inl fails) = refl
 taking_status input x x' fault (inl (stays, fails)) = absurd fails

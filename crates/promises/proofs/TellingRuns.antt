@@ -5,7 +5,7 @@ use Rattle.std.specs.Io.KnownBytes.{Appends}
 use Rattle.std.specs.List.{list_all}
 use Rattle.uecp_elements.specs.declared.code.Code.{Code}
 use Rattle.uecp_text.proofs.Public.{appends_nothing, appends_then}
-use Rattle.uecp_link.specs.Server.{ServerState, waiting, counters_waiting}
+use Rattle.uecp_link.specs.Server.{ServerState, waiting}
 use Rattle.uecp_net.specs.Sending.{SenderOver}
 use Rattle.uecp_net.specs.declared.saved.keep.Progress.{Progress}
 use Rattle.uecp_net.specs.Keeping.{KeptServer, kept_of}
@@ -85,9 +85,9 @@ module _ {C I O K : Type 0} (opens : C → Option (I × O) → C → Type 0) (cl
         inr (
           settled,
           subst (λ (r : ServerState). AreHeld options.form (x0.progress.taken + 1 - length (marks_in r)) (marks_in r)
-              (counters_waiting r) settled text) runs
+              (waiting r) settled text) runs
               (subst (λ (p : Progress). AreHeld options.form (p.taken + 1 - length (marks_in x.runs))
-              (marks_in x.runs) (counters_waiting x.runs) settled text) progress is),
+              (marks_in x.runs) (waiting x.runs) settled text) progress is),
         )
     front_first true x (runs, progress) c loan text told = told
 

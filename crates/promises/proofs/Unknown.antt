@@ -2,7 +2,7 @@
 use Rattle.std.proofs.Common.{◌≡◌, ℕ, zero, suc, Bool, List, Ok, Err, refl, ap, ◌∙◌, inl, inr}
 use Rattle.std.specs.Prelude.{Option, length, ◌+◌, ◌-◌}
 use Rattle.line_batches.specs.declared.intake.Input.{Input}
-use Rattle.uecp_link.specs.Server.{counters_waiting}
+use Rattle.uecp_link.specs.Server.{waiting}
 use Rattle.uecp_net.specs.Sending.{SenderOver, submitted_all}
 use Rattle.uecp_net.specs.declared.saved.batch.KeptOutstanding.TheVariants as kept
 use Rattle.uecp_net.specs.Keeping.{KeptServer}
@@ -38,7 +38,7 @@ module _ {C I O K : Type 0} (opens : C → Option (I × O) → C → Type 0) (cl
     where
       by : (ended : Ended)
           → AnswersTold (RepliesOf form x'.progress.taken
-          (counters_waiting (submitted_all x.runs batch).sender.server)) x'.runs.sender.server.counts ended x.held
+          (waiting (submitted_all x.runs batch).sender.server)) x'.runs.sender.server.counts ended x.held
           x'.held went
           → unknown' ≡ unknown_of (length batch) ended → unknown' ≡ 0
       by (Ok settled) tells are = are
@@ -55,7 +55,7 @@ module _ {C I O K : Type 0} (opens : C → Option (I × O) → C → Type 0) (cl
     where
       by : (ended : Ended)
           → AnswersTold (AreHeld form (x'.progress.taken + 1 - length (marks_in x.runs.sender.server))
-          (marks_in x.runs.sender.server) (counters_waiting x.runs.sender.server)) x'.runs.sender.server.counts ended
+          (marks_in x.runs.sender.server) (waiting x.runs.sender.server)) x'.runs.sender.server.counts ended
           x.held x'.held goes
           → unknown' ≡ unknown_of (length (marks_in x.runs.sender.server)) ended → unknown' ≡ 0
       by (Ok settled) tells are = are

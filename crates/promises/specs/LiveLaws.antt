@@ -9,6 +9,8 @@ use Rattle.kept_jobs.specs.ServerRun.{Standing}
 use Rattle.kept_jobs.specs.ServerKept.{HasTaken}
 use Rattle.line_feed.specs.declared.feed.Next.{Next}
 use Rattle.line_feed.specs.declared.feed_fault.FeedFault.{FeedFault}
+use Rattle.line_feed.specs.declared.feed_fault.NotKept.{NotKept}
+use Rattle.line_feed.specs.Lines.{Refusal}
 use Rattle.line_batches.specs.declared.intake.Given.{Given}
 use Rattle.line_batches.specs.Intake.{FeedIntake, messages_in}
 use Rattle.sending.specs.declared.options.LiveOptions.{LiveOptions}
@@ -26,6 +28,7 @@ IsDone status = (status ≡ 0) ⊎ (status ≡ 1) ⊎ (status ≡ 4)
 -- there
 module _ {D C I O K : Type 0} (unread : D → Option (List ℕ))
     (takes : D → Result Next FeedFault → List ℕ → D → Type 0) (says : D → Bool → D → Type 0)
+    (passes : D → Refusal → Result (Unit {0}) NotKept → D → Type 0)
     (opens : C → Option (I × O) → C → Type 0) (closes : C → I → O → C → Type 0)
     (remaining : I → Option (List ℕ)) (contents : O → Option (List ℕ)) (leaves : K → KeptServer → Type 0)
     (is_clean : K → Type 0) (saves fails : K → KeptServer → K → Type 0) where
@@ -36,7 +39,8 @@ module _ {D C I O K : Type 0} (unread : D → Option (List ℕ))
   DoneIsKept =
       (options : LiveOptions) (c c' : C) (x : Standing ServerState K) (k' : K)
       (held' : Option (List ℕ)) (feed feed' : D) (said said' : Told) (status : ℕ) →
-      Lives unread takes says opens closes remaining contents leaves is_clean saves fails options c c' x k' held' feed
+      Lives unread takes says passes opens closes remaining contents leaves is_clean saves fails options c c' x k' held'
+      feed
       feed' said said' status → IsDone status →
       (lines : List (List ℕ × Given)) × TakesAll options (unread feed) (unread feed') said lines
       × (IsKept (leaves x.keeper) x.progress x.runs → is_clean k' → (left : KeptServer) → leaves k' left →
@@ -48,7 +52,8 @@ module _ {D C I O K : Type 0} (unread : D → Option (List ℕ))
   WhatACrashLeaves =
       (options : LiveOptions) (c c' : C) (x : Standing ServerState K) (k' : K)
       (held' : Option (List ℕ)) (feed feed' : D) (said said' : Told) (status : ℕ) →
-      Lives unread takes says opens closes remaining contents leaves is_clean saves fails options c c' x k' held' feed
+      Lives unread takes says passes opens closes remaining contents leaves is_clean saves fails options c c' x k' held'
+      feed
       feed' said said' status →
       (lines : List (List ℕ × Given)) × TakesSome options (unread feed) (unread feed') said lines
       × (IsKept (leaves x.keeper) x.progress x.runs → is_clean k' → (left : KeptServer) → leaves k' left →
@@ -62,7 +67,8 @@ module _ {D C I O K : Type 0} (unread : D → Option (List ℕ))
   ToldIsTaken =
       (options : LiveOptions) (c c' : C) (x : Standing ServerState K) (k' : K)
       (held' : Option (List ℕ)) (feed feed' : D) (said said' : Told) (status : ℕ) →
-      Lives unread takes says opens closes remaining contents leaves is_clean saves fails options c c' x k' held' feed
+      Lives unread takes says passes opens closes remaining contents leaves is_clean saves fails options c c' x k' held'
+      feed
       feed' said said' status → IsDone status →
       (lines : List (List ℕ × Given)) × TakesAll options (unread feed) (unread feed') said lines
       × (answers : List (Option Code)) × (text : List ℕ) × (length answers ≡ length (messages_in lines))
@@ -76,9 +82,10 @@ module _ {D C I O K : Type 0} (unread : D → Option (List ℕ))
   TakenInBatches =
       (options : LiveOptions) (c c' : C) (x : Standing ServerState K) (k' : K)
       (held' : Option (List ℕ)) (feed feed' : D) (said said' : Told) (status : ℕ) →
-      Lives unread takes says opens closes remaining contents leaves is_clean saves fails options c c' x k' held' feed
+      Lives unread takes says passes opens closes remaining contents leaves is_clean saves fails options c c' x k' held'
+      feed
       feed' said said' status →
       (batches : List (List (List ℕ))) × (last : FeedIntake D)
-      × AreBatches (FromFeed unread takes says options.reading) batches
-      (record { feed = feed; lines = 0; refused = false; said = said }) last
+      × AreBatches (FromFeed unread takes says passes options.reading) batches
+      (record { feed = feed; lines = options.lines_before; refused = false; said = said }) last
       × (feed' ≡ last.feed)

@@ -3,7 +3,7 @@ use Rattle.std.specs.Prelude.{◌≡◌, ◌⊎◌, ℕ, zero, suc, ◌+◌, ◌
 use Rattle.std.specs.Prelude.{length, Option, Some, None}
 use Rattle.std.specs.List.{list_all}
 use Rattle.uecp_elements.specs.declared.code.Code.{Code}
-use Rattle.uecp_link.specs.Server.{ServerState, waiting, counters_waiting}
+use Rattle.uecp_link.specs.Server.{ServerState, waiting}
 use Rattle.uecp_net.specs.declared.sender.Settled.{Settled}
 use Rattle.uecp_net.specs.declared.saved.keep.Progress.{Progress}
 use Rattle.kept_jobs.specs.ServerRun.{is_due}
@@ -18,13 +18,13 @@ use Rattle.sending.specs.Lines as lines
 use Rattle.sending.specs.Forms.{AreHeld, unknown_in, station_in, taken_in, given_up_in}
 use Rattle.sending.specs.Run.{marks_in}
 
--- The line of the message of this number, which was answered with this code. In JSON it tells some time, counter,
--- number of tries and number of milliseconds besides.
+-- The line of the message of this number, which was answered with this code. In JSON it tells some time, some number of
+-- tries and of milliseconds, and a message and its counter besides: which, `SendsBatch` and `SettlesLive` say.
 abbrev pub IsReply : Form → (number : ℕ) → Code → (line : List ℕ) → Type 0
 IsReply Lines number code line = line ≡ lines.reply_line number code
 IsReply (Words region) number code line = line ≡ lines.reply_line number code
-IsReply Json number code line = (stamp : List ℕ) × (counter : ℕ) × (tries : ℕ) × (milliseconds : ℕ) × IsStamp stamp
-    × (line ≡ objects.answer_line stamp tries milliseconds number counter code)
+IsReply Json number code line = (stamp : List ℕ) × (sent : ℕ × List ℕ) × (tries : ℕ) × (milliseconds : ℕ)
+    × IsStamp stamp × (line ≡ objects.answer_line stamp tries milliseconds number sent code)
 
 -- the line of a message of this number that is unknown
 abbrev pub unknown_line_in : Form → (number : ℕ) → List ℕ
@@ -67,7 +67,7 @@ module _ (options : LiveOptions) (before : Progress) (s : ServerState) where
   abbrev pub IsToldFirst : (due : Bool) → (text : List ℕ) → Type 0
   IsToldFirst false text =
       (text ≡ []) ⊎ ((settled : Settled)
-      × AreHeld options.form (before.taken + 1 - length (marks_in s)) (marks_in s) (counters_waiting s) settled text)
+      × AreHeld options.form (before.taken + 1 - length (marks_in s)) (marks_in s) (waiting s) settled text)
   IsToldFirst true text = (told : List Code) × (text ≡ station_in options.form options.station.now told)
 
   -- What was told in between, of no message of the lines, where the encoder was taken for a new one: that the messages

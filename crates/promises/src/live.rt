@@ -12,7 +12,8 @@ use uecp_net::{Connections, SavedServer};
 ///
 /// Its premises: what was kept at the start is the server, and that of the keeper holds up to the end.
 pub fn done_is_kept<F: Feed, K: Keep<SavedServer>, C: Connections>()
-    ensures { DoneIsKept F.remaining F.takes F.says C.opens C.closes C.Input.remaining C.Output.contents K.leaves
+    ensures { DoneIsKept F.remaining F.takes F.says F.passes C.opens C.closes C.Input.remaining C.Output.contents
+        K.leaves
         K.is_clean
         K.saves K.fails }
 {}
@@ -24,7 +25,8 @@ pub fn done_is_kept<F: Feed, K: Keep<SavedServer>, C: Connections>()
 ///
 /// Its premises: what was kept at the start is the server, and that of the keeper holds up to the end.
 pub fn what_a_crash_leaves<F: Feed, K: Keep<SavedServer>, C: Connections>()
-    ensures { WhatACrashLeaves F.remaining F.takes F.says C.opens C.closes C.Input.remaining C.Output.contents K.leaves
+    ensures { WhatACrashLeaves F.remaining F.takes F.says F.passes C.opens C.closes C.Input.remaining C.Output.contents
+        K.leaves
         K.is_clean
         K.saves K.fails }
 {}
@@ -38,7 +40,8 @@ pub fn what_a_crash_leaves<F: Feed, K: Keep<SavedServer>, C: Connections>()
 ///
 /// It has no premise of the keeper.
 pub fn told_is_taken<F: Feed, K: Keep<SavedServer>, C: Connections>()
-    ensures { ToldIsTaken F.remaining F.takes F.says C.opens C.closes C.Input.remaining C.Output.contents K.leaves
+    ensures { ToldIsTaken F.remaining F.takes F.says F.passes C.opens C.closes C.Input.remaining C.Output.contents
+        K.leaves
         K.is_clean
         K.saves K.fails }
 {}
@@ -51,6 +54,7 @@ pub fn told_is_taken<F: Feed, K: Keep<SavedServer>, C: Connections>()
 ///
 /// It has no premise.
 pub fn taken_in_batches<F: Feed, K: Keep<SavedServer>, C: Connections>()
-    ensures { TakenInBatches F.remaining F.takes F.says C.opens C.closes C.Input.remaining C.Output.contents K.leaves
+    ensures { TakenInBatches F.remaining F.takes F.says F.passes C.opens C.closes C.Input.remaining C.Output.contents
+        K.leaves
         K.is_clean K.saves K.fails }
 {}

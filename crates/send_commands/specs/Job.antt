@@ -14,6 +14,8 @@ use Rattle.uecp_encoder.specs.declared.keep.NotSaved.{NotSaved}
 use Rattle.sending.specs.declared.options.LiveOptions.{LiveOptions}
 use Rattle.line_feed.specs.declared.feed.Next.{Next}
 use Rattle.line_feed.specs.declared.feed_fault.FeedFault.{FeedFault}
+use Rattle.line_feed.specs.declared.feed_fault.NotKept.{NotKept}
+use Rattle.line_feed.specs.Lines.{Refusal}
 use Rattle.sending.specs.Run.{Lives}
 use Rattle.commands.specs.declared.send_options.SendOptions.{SendOptions}
 use Rattle.commands.specs.declared.send_options.TitleOptions.{TitleOptions}
@@ -45,6 +47,7 @@ pub record IsFor (job : SendOptions) (station : List (List ℕ)) (options : Live
   pub is_input : IsInput job options.reading.input
   pub is_size : options.reading.size ≡ job.window
   pub is_strict : options.reading.strict ≡ job.strict
+  pub counts_behind : options.lines_before ≡ job.from_line - 1
   pub join : options.join ≡ job.join
   pub rejoin : options.rejoin ≡ job.rejoin
   pub form : options.form ≡ job.form
@@ -57,6 +60,7 @@ IsOfNobody job said said' status =
 
 module _ {D C I O : Type 0} (unread : D → Option (List ℕ))
     (takes : D → Result Next FeedFault → List ℕ → D → Type 0) (says : D → Bool → D → Type 0)
+    (passes : D → Refusal → Result (Unit {0}) NotKept → D → Type 0)
     (opens : C → Option (I × O) → C → Type 0) (closes : C → I → O → C → Type 0)
     (remaining : I → Option (List ℕ)) (contents : O → Option (List ℕ)) where
   -- A run was made with no state, by a new server to the encoder, of which nothing was taken and which is not joined.
@@ -65,7 +69,8 @@ module _ {D C I O : Type 0} (unread : D → Option (List ℕ))
       → (feed feed' : D) → (held held' : Option (List ℕ)) → (said said' : Told) → (status : ℕ) → Type 0
   SendsTo address options c c' feed feed' held held' said said' status =
       (keeper : NotSaved) × (keeper' : NotSaved)
-      × Lives unread takes says opens closes remaining contents (λ k left. Unit {0}) (λ k. ⊥) (λ k left k'. k' ≡ k)
+      × Lives unread takes says passes opens closes remaining contents (λ k left. Unit {0}) (λ k. ⊥)
+      (λ k left k'. k' ≡ k)
       (λ k left k'. ⊥)
       options c c' (record {
         runs = idle_at address;
@@ -81,7 +86,8 @@ module _ {D C I O : Type 0} (unread : D → Option (List ℕ))
     abbrev pub SendsFrom : (state : Option (List ℕ)) → (address : ℕ) → LiveOptions → (c c' : C)
         → (feed feed' : D) → (held held' : Option (List ℕ)) → (said said' : Told) → (status : ℕ) → Type 0
     SendsFrom (Some path) address options c c' feed feed' held held' said said' status =
-        LivesIn unread takes says gives ends leaves is_clean saves fails opens closes remaining contents path address
+        LivesIn unread takes says passes gives ends leaves is_clean saves fails opens closes remaining contents path
+        address
         options c c' feed
         feed' held held' said said' status
         ⊎ (HasNoState gives refuses path said said' status × (feed' ≡ feed) × (held' ≡ held) × (c' ≡ c))

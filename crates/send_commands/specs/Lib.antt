@@ -1,4 +1,5 @@
 -- The definitions that the contracts of the job `send` cite.
+pub mod Passing
 pub mod LiveIn
 pub mod Job
 pub mod OverTcp

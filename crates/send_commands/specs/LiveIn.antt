@@ -10,6 +10,8 @@ use Rattle.state_jobs.specs.ServerJob.{RefusesServer}
 use Rattle.sending.specs.declared.options.LiveOptions.{LiveOptions}
 use Rattle.line_feed.specs.declared.feed.Next.{Next}
 use Rattle.line_feed.specs.declared.feed_fault.FeedFault.{FeedFault}
+use Rattle.line_feed.specs.declared.feed_fault.NotKept.{NotKept}
+use Rattle.line_feed.specs.Lines.{Refusal}
 use Rattle.sending.specs.Run.{Lives}
 
 -- The state at the path could not be opened, and that was said.
@@ -22,6 +24,7 @@ HasNoState gives refuses path said said' status =
 
 module _ {D K C I O : Type 0} (unread : D → Option (List ℕ))
     (takes : D → Result Next FeedFault → List ℕ → D → Type 0) (says : D → Bool → D → Type 0)
+    (passes : D → Refusal → Result (Unit {0}) NotKept → D → Type 0)
     (gives : (path : List ℕ) → ServerState → Progress → K → Type 0)
     (ends : K → Result (Unit {0}) StateFault → Type 0) (leaves : K → KeptServer → Type 0) (is_clean : K → Type 0)
     (saves fails : K → KeptServer → K → Type 0) (opens : C → Option (I × O) → C → Type 0)
@@ -41,7 +44,7 @@ module _ {D K C I O : Type 0} (unread : D → Option (List ℕ))
     pub given : gives path server progress keeper
     pub address_is : server.address ≡ address
     pub settled : is_clean keeper → IsKept (leaves keeper) progress server
-    pub lives : Lives unread takes says opens closes remaining contents leaves is_clean saves fails options c c'
+    pub lives : Lives unread takes says passes opens closes remaining contents leaves is_clean saves fails options c c'
         (record { runs = server; keeper = keeper; progress = progress; held = held }) keeper_after held' feed feed'
         said between status
     pub closes_so : ends keeper_after closed

@@ -36,7 +36,7 @@ pub fn run_live_in<S: OpenStates, F: Feed, W: Write, E: Write, C: Connections, T
     requires most { options.now.reading.size ≤ 8 }
     // The state was opened, the run was made from there, and the state closed; or it could not be opened, and nothing
     // was taken, opened or written.
-    ensures lives { LivesIn F.remaining F.takes F.says (S.gives_server states.now) (S.closes_server states.now)
+    ensures lives { LivesIn F.remaining F.takes F.says F.passes (S.gives_server states.now) (S.closes_server states.now)
         S.ServerKeeper.leaves
         S.ServerKeeper.is_clean S.ServerKeeper.saves S.ServerKeeper.fails C.opens C.closes C.Input.remaining
         C.Output.contents path.now address options.now connect.old connect.new feed.old feed.new teller.old.held

@@ -1,15 +1,21 @@
 //! The job `send` over TCP, with lines from a reader. Source: profile.
-ghost use Rattle.std.specs.Prelude.{◌≡◌, ◌≤◌, [], None, IfOk, IfErr};
+ghost use Rattle.std.specs.Prelude.{◌≡◌, ◌≤◌, ◌++◌, [], None, true, codes, is_some, option_map, IfOk, IfErr};
+ghost use Rattle.notices.specs.Told.{Says};
+ghost use Rattle.std.specs.String.{string_bytes};
 ghost use Rattle.send_commands.specs.Job.{IsSendable};
-ghost use Rattle.send_commands.specs.OverTcp.{HasSentTcp, DialsLive, limit_of};
+ghost use Rattle.send_commands.specs.OverTcp.{HasNoLedger, HasSentTcp, DialsLive, limit_of};
+ghost use Rattle.send_commands.specs.Passing.{TellsFault};
 
+use crate::ledger::{LedgerFault, LedgerFile, open_ledger};
+use crate::passing::Passing;
+use crate::refusals::RefusalObjects;
 use crate::run::run_send;
 use crate::station::{StationFault, read_station};
 use commands::SendOptions;
 use kept_jobs::fail_state;
 use line_feed::{Arrival, LineFeed};
 use live_edges::{Patience, Patient, Watch};
-use notices::{NoticesTo, fail};
+use notices::{Notices, NoticesTo, fail};
 use sending::Teller;
 use state_jobs::OpenStates;
 use std::alloc::Global;
@@ -22,17 +28,19 @@ use uecp_jobs::address_of;
 use uecp_net::Dialing;
 use uecp_text::RunFault;
 
-/// What the connections of `send` are dialled with.
-pub struct Dialling<'a, N> {
+/// What the connections of `send` are dialled with, and where its state is kept.
+pub struct Dialling<'a, N, S> {
     /// The network, the clock and the files.
     pub net: &'a N,
     /// What has the connection that is there, so that an arrival can look after it.
     pub watch: &'a Watch,
+    /// What opens the state.
+    pub states: &'a S,
 }
 
 /// Does the job over TCP with the lines of a reader, and answers the exit status: that of [`run_send`], or 2 where a
 /// line of the station's file is refused, and 3 where that can't be read. What is said of the connection goes to
-/// `notices`.
+/// `notices`; lines that are refused are told on `refusals` as objects, where the job tells in JSON.
 pub fn run_send_over_tcp<
     'a,
     R: Read,
@@ -43,35 +51,43 @@ pub fn run_send_over_tcp<
     N: Net<Stream = TcpStream> + Clock + Files,
     S: OpenStates,
     T: Clock,
+    Q: Write,
 >(
     job: &'a SendOptions,
     reader: &mut R,
     arrival: A,
     teller: &mut Teller<'_, W, T>,
     errors: &mut NoticesTo<E>,
-    dialling: Dialling<'a, N>,
+    dialling: Dialling<'a, N, S>,
     notices: &'a mut M,
-    states: &S,
+    refusals: &'a mut Q,
 ) -> u8
     requires { IsSendable job.now }
     ensures sent { HasSentTcp A.answers ⟦<TcpStream as Read>⟧.remaining ⟦<TcpStream as Write>⟧.contents
-        (S.gives_server states.now) (S.refuses_server states.now) (S.closes_server states.now)
+        (S.gives_server dialling.entry.states.now) (S.refuses_server dialling.entry.states.now)
+        (S.closes_server dialling.entry.states.now)
         S.ServerKeeper.leaves S.ServerKeeper.is_clean S.ServerKeeper.saves S.ServerKeeper.fails job.now
         arrival (M.contents notices.old) (R.remaining reader.old) teller.old.held teller.new.held errors.old
         errors.new result }
     ensures writer { teller.new.writer ≡ teller.old.writer }
 {
-    let Dialling { net, watch } = dialling;
+    let Dialling { net, watch, states } = dialling;
     let alloc = teller.alloc();
     match station_of(alloc, job, net, errors) {
         Err(fault) => fail_station(&fault, errors),
         Ok(station) => {
-            let Ok(mut feed) = LineFeed::new(alloc, reader, arrival) else {
+            let Ok(feed) = LineFeed::new(alloc, reader, arrival) else {
                 return fail(&RunFault::OutOfMemory, errors);
             };
+            let ledger = match ledger_of(job, net) {
+                Ok(ledger) => ledger,
+                Err(why) => return fail_ledger(job, why, errors),
+            };
+            let objects = RefusalObjects::new(alloc, net, job.form, refusals);
+            let mut feed = Passing::new(alloc, feed, ledger, objects);
             let mut patient = patient_of(net, job, watch, notices);
             let station = station.as_slice();
-            run_send(
+            let status = run_send(
                 job,
                 station,
                 states,
@@ -79,8 +95,51 @@ pub fn run_send_over_tcp<
                 teller,
                 errors,
                 &mut patient,
-            )
+            );
+            say_fault(&job.pass_over, feed.fault(), errors);
+            status
         }
+    }
+}
+
+/// What keeps the lines that are passed over; none where the job has no file for them.
+fn ledger_of<N: Files>(
+    job: &SendOptions,
+    files: &N,
+) -> Result<Option<LedgerFile<N::File>>, LedgerFault>
+    ensures there { IfOk result (λ ledger. is_some ledger ≡ is_some job.now.pass_over) }
+    ensures named { IfErr result (λ _. is_some job.now.pass_over ≡ true) }
+{
+    match &job.pass_over {
+        None => Ok(None),
+        Some(path) => match open_ledger(files, path.as_str()) {
+            Ok(ledger) => Ok(Some(ledger)),
+            Err(why) => Err(why),
+        },
+    }
+}
+
+/// Says of the job's file for lines that are passed over why it can't be opened, and answers the exit status.
+fn fail_ledger<E: Write>(job: &SendOptions, why: LedgerFault, errors: &mut NoticesTo<E>) -> u8
+    requires named { is_some job.now.pass_over ≡ true }
+    ensures status { result ≡ 3 }
+    ensures said { HasNoLedger job.now errors.old errors.new }
+{
+    match &job.pass_over {
+        Some(path) => {
+            say_not_kept(path.as_str().as_bytes(), why.text().as_bytes(), errors);
+            3
+        }
+        None => unreachable!(),
+    }
+}
+
+/// Says of this file why a line that is passed over could not be kept there, where it could not.
+fn say_fault<E: Write>(path: &Option<String>, fault: Option<LedgerFault>, errors: &mut NoticesTo<E>)
+    ensures { TellsFault (option_map string_bytes path.now) fault errors.old errors.new }
+{
+    if let (Some(path), Some(fault)) = (path, fault) {
+        say_not_kept(path.as_str().as_bytes(), fault.text().as_bytes(), errors);
     }
 }
 
@@ -154,4 +213,18 @@ fn limit_of(seconds: u32) -> Option<u64>
     } else {
         Some(u64::from(seconds))
     }
+}
+
+/// Says of the file at this path why a line that is passed over could not be kept there.
+fn say_not_kept<'a, E: Write>(path: &'a [u8], why: &'a [u8], errors: &mut NoticesTo<E>)
+    ensures { Says errors.old errors.new
+        (codes "uecp: refused lines can't be kept: " ++ (path.now ++ (codes ": " ++ (why.now ++ codes "\n")))) }
+{
+    errors.say(&[
+        b"uecp: refused lines can't be kept: ",
+        path,
+        b": ",
+        why,
+        b"\n",
+    ]);
 }

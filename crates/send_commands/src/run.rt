@@ -36,7 +36,7 @@ pub fn run_send<S: OpenStates, F: Feed, W: Write, E: Write, C: Connections, T: C
     connect: &mut C,
 ) -> u8
     requires { IsSendable job.now }
-    ensures sent { HasSentLive F.remaining F.takes F.says C.opens C.closes C.Input.remaining C.Output.contents
+    ensures sent { HasSentLive F.remaining F.takes F.says F.passes C.opens C.closes C.Input.remaining C.Output.contents
         (S.gives_server states.now)
         (S.refuses_server states.now) (S.closes_server states.now) S.ServerKeeper.leaves S.ServerKeeper.is_clean
         S.ServerKeeper.saves S.ServerKeeper.fails job.now station.now connect.old connect.new feed.old feed.new
@@ -74,6 +74,7 @@ fn options_of<'a>(job: &'a SendOptions, station: &'a [Message]) -> LiveOptions<'
             size: usize::from(job.window),
             strict: job.strict,
         },
+        lines_before: job.from_line.saturating_sub(1) as usize,
         join: job.join,
         rejoin: job.rejoin,
         form: job.form,
@@ -107,7 +108,8 @@ fn run_unkept<F: Feed, W: Write, E: Write, C: Connections, T: Clock>(
     requires exact { IsTrue (is_exact address) }
     requires some { 1 ≤ options.now.reading.size }
     requires most { options.now.reading.size ≤ 8 }
-    ensures sends { SendsTo F.remaining F.takes F.says C.opens C.closes C.Input.remaining C.Output.contents address
+    ensures sends { SendsTo F.remaining F.takes F.says F.passes C.opens C.closes C.Input.remaining C.Output.contents
+        address
         options.now connect.old
         connect.new feed.old feed.new teller.old.held teller.new.held
         errors.old errors.new result }

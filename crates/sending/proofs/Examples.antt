@@ -4,15 +4,16 @@ use Rattle.std.specs.Fmt.{digits}
 use Rattle.hex.specs.Hex.{encode_with}
 use Rattle.json.specs.Print.{escape_byte}
 use Rattle.uecp_elements.specs.declared.code.Code.TheVariants.{Applied, BufferFull}
-use Rattle.json_lines.specs.Objects.{line_of, object_of}
-use Rattle.sending.specs.Objects.{answer_line, answer_lines, held_lines, unknown_lines, progress_line}
+use Rattle.uecp_elements.specs.Reading.{items_at, first}
+use Rattle.json_lines.specs.Objects.{line_of, object_of, list_of}
+use Rattle.sending.specs.Objects.{answer_line, held_lines, unknown_lines, progress_line}
 use Rattle.sending.specs.Objects.{joined_line, refused_lines, station_applied_line}
 
 abbrev stamp : List ℕ
 stamp = codes "2026-11-26T09:00:00.123Z"
 
-applied : answer_line stamp 1 12 3 5 Applied ≡ codes "{\"format\":1,\"kind\":\"answer\",\"number\":3,\"time\":\"2026-11-26T09:00:00.123Z\",\"counter\":5,\"code\":\"00\",\"meaning\":\"applied\",\"tries\":1,\"milliseconds\":12}\n"
-unfolding line_of object_of escape_byte encode_with digits
+applied : answer_line stamp 1 12 3 (5, 0x1C ∷ 2 ∷ []) Applied ≡ codes "{\"format\":1,\"kind\":\"answer\",\"number\":3,\"time\":\"2026-11-26T09:00:00.123Z\",\"counter\":5,\"code\":\"00\",\"meaning\":\"applied\",\"tries\":1,\"milliseconds\":12,\"message\":\"1C02\",\"elements\":[{\"element\":\"select\",\"set\":2}],\"fault\":null}\n"
+unfolding line_of object_of list_of escape_byte encode_with digits items_at first
 applied = refl
 
 unknown : unknown_lines 5 1 ≡ codes "{\"format\":1,\"kind\":\"unknown\",\"number\":5}\n"
@@ -34,7 +35,7 @@ unfolding line_of object_of escape_byte encode_with digits
 station = refl
 
 -- a message that is marked has no line, and its number is passed over
-held : held_lines stamp 2 7 3 (false ∷ true ∷ false ∷ []) (9 ∷ 11 ∷ []) (Applied ∷ BufferFull ∷ [])
-    ≡ answer_line stamp 2 7 3 9 Applied ++ answer_line stamp 2 7 5 11 BufferFull ++ []
-unfolding line_of object_of escape_byte encode_with digits
+held : held_lines stamp 2 7 3 (false ∷ true ∷ false ∷ []) ((9, []) ∷ (11, []) ∷ []) (Applied ∷ BufferFull ∷ [])
+    ≡ answer_line stamp 2 7 3 (9, []) Applied ++ answer_line stamp 2 7 5 (11, []) BufferFull ++ []
+unfolding line_of object_of list_of escape_byte encode_with digits items_at first
 held = refl

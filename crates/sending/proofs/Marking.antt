@@ -1,6 +1,6 @@
 -- The marks of the messages that a server holds.
-use Rattle.std.proofs.Common.{◌≡◌, ℕ, zero, suc, ◌+◌, Bool, List, [], ◌∷◌, ◌++◌, take, map, Some, None, refl, ap, subst}
-use Rattle.std.proofs.Common.{sym, ◌∙◌, arith, unwrap_or}
+use Rattle.std.proofs.Common.{◌≡◌, ℕ, zero, suc, ◌+◌, Bool, List, [], ◌∷◌, ◌++◌, take, map, Some, ap, subst}
+use Rattle.std.proofs.Common.{arith, unwrap_or}
 use Rattle.std.specs.List.{slice_get}
 use Rattle.uecp_link.specs.Server.{Held}
 

@@ -1,5 +1,5 @@
 -- How a server begins whose lines come as they like, and what is told of that in each form (profile).
-use Rattle.std.specs.Prelude.{◌≡◌, ◌⊎◌, ℕ, Bool, true, false, Ok, Err, length}
+use Rattle.std.specs.Prelude.{◌≡◌, ◌⊎◌, Bool, true, false, Ok, Err, length}
 use Rattle.uecp_link.specs.Server.{ServerState, waiting}
 use Rattle.uecp_net.specs.Keeping.{KeptServer, kept_of, IsKept}
 use Rattle.kept_jobs.specs.declared.stop.KeptStop.TheVariants.{StateFailed}

@@ -33,22 +33,22 @@ given_up_in Json outstanding = given_up_object outstanding
 
 -- ---- The answers.
 
--- These lines tell of messages that were sent under these counters and settled so, the first of which has this number.
--- In JSON they tell some time, and some number of milliseconds.
-abbrev pub AreReplies : Form → (first : ℕ) → (counters : List ℕ) → Settled → (told : List ℕ) → Type 0
-AreReplies Lines first counters settled told = told ≡ lines.reply_lines first settled.codes.items
-AreReplies (Words region) first counters settled told = told ≡ lines.reply_lines first settled.codes.items
-AreReplies Json first counters settled told = (stamp : List ℕ) × (milliseconds : ℕ) × IsStamp stamp
-    × (told ≡ objects.answer_lines stamp settled.tries milliseconds first counters settled.codes.items)
+-- These lines tell of these messages, the first of which has this number, each sent under its counter, that were
+-- settled so. In JSON they tell some time, and some number of milliseconds.
+abbrev pub AreReplies : Form → (first : ℕ) → (sent : List (ℕ × List ℕ)) → Settled → (told : List ℕ) → Type 0
+AreReplies Lines first sent settled told = told ≡ lines.reply_lines first settled.codes.items
+AreReplies (Words region) first sent settled told = told ≡ lines.reply_lines first settled.codes.items
+AreReplies Json first sent settled told = (stamp : List ℕ) × (milliseconds : ℕ) × IsStamp stamp
+    × (told ≡ objects.answer_lines stamp settled.tries milliseconds first sent settled.codes.items)
 
 -- These lines tell of messages that were held, of which the first has this number, and of which those that are not
--- marked so waited under these counters and were settled so. In JSON likewise.
-abbrev pub AreHeld : Form → (first : ℕ) → (marks : List Bool) → (counters : List ℕ) → Settled → (told : List ℕ)
-    → Type 0
-AreHeld Lines first marks counters settled told = told ≡ lines.held_lines first marks settled.codes.items
-AreHeld (Words region) first marks counters settled told = told ≡ lines.held_lines first marks settled.codes.items
-AreHeld Json first marks counters settled told = (stamp : List ℕ) × (milliseconds : ℕ) × IsStamp stamp
-    × (told ≡ objects.held_lines stamp settled.tries milliseconds first marks counters settled.codes.items)
+-- marked so are these, which waited each under its counter and were settled so. In JSON likewise.
+abbrev pub AreHeld : Form → (first : ℕ) → (marks : List Bool) → (sent : List (ℕ × List ℕ)) → Settled
+    → (told : List ℕ) → Type 0
+AreHeld Lines first marks sent settled told = told ≡ lines.held_lines first marks settled.codes.items
+AreHeld (Words region) first marks sent settled told = told ≡ lines.held_lines first marks settled.codes.items
+AreHeld Json first marks sent settled told = (stamp : List ℕ) × (milliseconds : ℕ) × IsStamp stamp
+    × (told ≡ objects.held_lines stamp settled.tries milliseconds first marks sent settled.codes.items)
 
 -- that can't be known of so many messages whether they were applied, the first of which has this number
 abbrev pub unknown_in : Form → (first count : ℕ) → List ℕ

@@ -2,7 +2,7 @@
 pub mod Lines
 pub mod Objects
 pub mod Forms
-pub mod Counters
+pub mod Sent
 pub mod Beginning
 pub mod Station
 pub mod Hands

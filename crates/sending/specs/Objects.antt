@@ -4,13 +4,14 @@ use Rattle.serde_json.specs.Data.{string}
 use Rattle.uecp_elements.specs.declared.code.Code.{Code}
 use Rattle.uecp_elements.specs.declared.code.Code.TheVariants.{Applied}
 use Rattle.json_lines.specs.Objects.{Field, in_decimal, line_of}
+use Rattle.uecp_json.specs.Findings.{message_fields}
 use Rattle.uecp_json.specs.Steps.{code_fields}
 
 -- ---- The answers.
 
 -- A message: its number, when its answer is told, and the sequence counter that it was sent under.
-abbrev pub message_fields : (stamp : List ℕ) → (number counter : ℕ) → List Field
-message_fields stamp number counter =
+abbrev pub number_fields : (stamp : List ℕ) → (number counter : ℕ) → List Field
+number_fields stamp number counter =
     (codes "number", in_decimal number) ∷ (codes "time", string stamp) ∷ (codes "counter", in_decimal counter) ∷ []
 
 -- What its batch cost: how many tries the last connection took, and how many milliseconds went by.
@@ -18,33 +19,35 @@ abbrev pub cost_fields : (tries milliseconds : ℕ) → List Field
 cost_fields tries milliseconds =
     (codes "tries", in_decimal tries) ∷ (codes "milliseconds", in_decimal milliseconds) ∷ []
 
--- The line of a message that was answered with this code.
-abbrev pub answer_line : (stamp : List ℕ) → (tries milliseconds number counter : ℕ) → Code → List ℕ
-answer_line stamp tries milliseconds number counter code = line_of (codes "answer")
-    (message_fields stamp number counter ++ (code_fields code ++ cost_fields tries milliseconds))
+-- The line of a message, with the counter that it was sent under, that was answered with this code: last what it says.
+abbrev pub answer_line : (stamp : List ℕ) → (tries milliseconds number : ℕ) → (sent : ℕ × List ℕ) → Code → List ℕ
+answer_line stamp tries milliseconds number sent code = line_of (codes "answer")
+    (number_fields stamp number sent.0
+    ++ (code_fields code ++ (cost_fields tries milliseconds ++ message_fields sent.1)))
 
--- The lines of messages one after another, the first of which has this number: sent under these counters, and answered
--- with these codes.
-abbrev pub answer_lines : (stamp : List ℕ) → (tries milliseconds first : ℕ) → (counters : List ℕ) → List Code → List ℕ
-answer_lines stamp tries milliseconds first counters [] = []
+-- The lines of these messages one after another, the first of which has this number, each with the counter that it was
+-- sent under: they were answered with these codes.
+abbrev pub answer_lines : (stamp : List ℕ) → (tries milliseconds first : ℕ) → (sent : List (ℕ × List ℕ)) → List Code
+    → List ℕ
+answer_lines stamp tries milliseconds first sent [] = []
 answer_lines stamp tries milliseconds first [] (code ∷ told) = []
-answer_lines stamp tries milliseconds first (counter ∷ counters) (code ∷ told) =
-    answer_line stamp tries milliseconds first counter code
-    ++ answer_lines stamp tries milliseconds (first + 1) counters told
+answer_lines stamp tries milliseconds first (one ∷ sent) (code ∷ told) =
+    answer_line stamp tries milliseconds first one code
+    ++ answer_lines stamp tries milliseconds (first + 1) sent told
 
 -- The lines of messages that are held, one after another, the first of which has this number, and which are marked or
--- wait so: of each that waits the line of the next of these counters and of these codes; of one that is marked, whose
--- reply came before, nothing.
-abbrev pub held_lines : (stamp : List ℕ) → (tries milliseconds first : ℕ) → (marks : List Bool) → (counters : List ℕ)
-    → List Code → List ℕ
-held_lines stamp tries milliseconds first [] counters told = []
-held_lines stamp tries milliseconds first (true ∷ marks) counters told =
-    held_lines stamp tries milliseconds (first + 1) marks counters told
+-- wait so: of each that waits the line of the next of these, with its counter, and of these codes; of one that is
+-- marked, whose reply came before, nothing.
+abbrev pub held_lines : (stamp : List ℕ) → (tries milliseconds first : ℕ) → (marks : List Bool)
+    → (sent : List (ℕ × List ℕ)) → List Code → List ℕ
+held_lines stamp tries milliseconds first [] sent told = []
+held_lines stamp tries milliseconds first (true ∷ marks) sent told =
+    held_lines stamp tries milliseconds (first + 1) marks sent told
 held_lines stamp tries milliseconds first (false ∷ marks) [] told = []
-held_lines stamp tries milliseconds first (false ∷ marks) (counter ∷ counters) [] = []
-held_lines stamp tries milliseconds first (false ∷ marks) (counter ∷ counters) (code ∷ told) =
-    answer_line stamp tries milliseconds first counter code
-    ++ held_lines stamp tries milliseconds (first + 1) marks counters told
+held_lines stamp tries milliseconds first (false ∷ marks) (one ∷ sent) [] = []
+held_lines stamp tries milliseconds first (false ∷ marks) (one ∷ sent) (code ∷ told) =
+    answer_line stamp tries milliseconds first one code
+    ++ held_lines stamp tries milliseconds (first + 1) marks sent told
 
 -- The line of a message of which can't be known whether it was applied.
 abbrev pub unknown_line : (number : ℕ) → List ℕ

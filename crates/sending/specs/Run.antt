@@ -5,7 +5,7 @@ use Rattle.std.specs.List.{list_all}
 use Rattle.uecp_text.specs.declared.run_fault.RunFault.{RunFault}
 use Rattle.uecp_text.specs.declared.run_fault.RunFault.TheVariants as run
 use Rattle.uecp_link.specs.declared.counts.ServerCounts.{ServerCounts}
-use Rattle.uecp_link.specs.Server.{ServerState, idle_at, counters_waiting}
+use Rattle.uecp_link.specs.Server.{ServerState, idle_at, waiting}
 use Rattle.uecp_net.specs.declared.sender.Outstanding.TheVariants.{TriesSpent, ConnectionFailed}
 use Rattle.uecp_net.specs.declared.sender.Settled.{Settled}
 use Rattle.uecp_net.specs.Sending.{SenderOver, submitted_all}
@@ -30,6 +30,8 @@ use Rattle.line_batches.specs.declared.taking.After.{After}
 use Rattle.line_batches.specs.declared.taking.After.TheVariants.{GoesOn, Ends}
 use Rattle.line_feed.specs.declared.feed.Next.{Next}
 use Rattle.line_feed.specs.declared.feed_fault.FeedFault.{FeedFault}
+use Rattle.line_feed.specs.declared.feed_fault.NotKept.{NotKept}
+use Rattle.line_feed.specs.Lines.{Refusal}
 use Rattle.line_batches.specs.declared.taking.Reading.{Reading}
 use Rattle.line_batches.specs.Intake.{FeedIntake}
 use Rattle.line_batches.specs.Batches.{TakesBatch}
@@ -85,11 +87,9 @@ AnswersTold are_told counts (Err (kept.Outstanding reason)) held held' went =
     (held' ≡ held) × (went ≡ Err (stop_for counts reason))
 AnswersTold are_told counts (Err kept.StateFailed) held held' went = (held' ≡ held) × (went ≡ Err StateFailed)
 
--- the line of each of these messages, the last of which has this number and which were sent under these counters, by
--- its own reply
-abbrev pub RepliesOf : Form → (last : ℕ) → (counters : List ℕ) → Settled → (told : List ℕ) → Type 0
-RepliesOf form last counters settled told =
-    AreReplies form (last + 1 - length settled.codes.items) counters settled told
+-- the line of each of these messages, the last of which has this number, each sent under its counter, by its own reply
+abbrev pub RepliesOf : Form → (last : ℕ) → (sent : List (ℕ × List ℕ)) → Settled → (told : List ℕ) → Type 0
+RepliesOf form last sent settled told = AreReplies form (last + 1 - length settled.codes.items) sent settled told
 
 -- of the messages that a server holds, the oldest first, whether each is marked
 abbrev pub marks_in : ServerState → List Bool
@@ -122,9 +122,11 @@ EndsAs went applied refused said said' status =
 
 -- ---- Where batches come from: what is taken, and what comes after it. So from a feed of lines.
 abbrev pub FromFeed : {D : Type 0} → (unread : D → Option (List ℕ))
-    → (takes : D → Result Next FeedFault → List ℕ → D → Type 0) → (says : D → Bool → D → Type 0) → Reading
+    → (takes : D → Result Next FeedFault → List ℕ → D → Type 0) → (says : D → Bool → D → Type 0)
+    → (passes : D → Refusal → Result (Unit {0}) NotKept → D → Type 0) → Reading
     → (messages : List (List ℕ)) → After → (x x' : FeedIntake D) → Type 0
-FromFeed unread takes says reading = TakesBatch unread takes says reading.input reading.size reading.strict
+FromFeed unread takes says passes reading = TakesBatch unread takes says passes reading.input reading.size
+    reading.strict
 
 -- ---- What is outstanding is given up.
 
@@ -150,7 +152,7 @@ module _ {C I O K : Type 0} (opens : C → Option (I × O) → C → Type 0) (cl
       → (applied applied' : Bool) → (unknown' : ℕ) → Went → Type 0
   SendsBatch messages x x' applied applied' unknown' went =
       (ended : Ended) × SendsOne opens closes remaining contents leaves is_clean saves fails messages ended x x'
-      × AnswersTold (RepliesOf form x'.progress.taken (counters_waiting (submitted_all x.runs messages).sender.server))
+      × AnswersTold (RepliesOf form x'.progress.taken (waiting (submitted_all x.runs messages).sender.server))
       x'.runs.sender.server.counts ended x.held x'.held went
       × (applied' ≡ applied && are_applied ended) × (unknown' ≡ unknown_of (length messages) ended)
 
@@ -169,7 +171,7 @@ module _ {C I O K : Type 0} (opens : C → Option (I × O) → C → Type 0) (cl
       ⊎ ((x.runs.sender.server.held ≢ []) × ((ended : Ended)
       × SettlesOne opens closes remaining contents leaves is_clean saves fails ended x x'
       × AnswersTold (AreHeld form (x'.progress.taken + 1 - length (marks_in x.runs.sender.server))
-      (marks_in x.runs.sender.server) (counters_waiting x.runs.sender.server))
+      (marks_in x.runs.sender.server) (waiting x.runs.sender.server))
       x'.runs.sender.server.counts ended x.held x'.held went
       × (applied' ≡ applied && are_applied ended)
       × (unknown' ≡ unknown_of (length (marks_in x.runs.sender.server)) ended)))
@@ -344,20 +346,21 @@ module _ {T C I O K : Type 0} (takes : Reading → (messages : List (List ℕ)) 
 -- ---- A whole run whose batches are taken from a feed.
 module _ {D C I O K : Type 0} (unread : D → Option (List ℕ))
     (takes : D → Result Next FeedFault → List ℕ → D → Type 0) (says : D → Bool → D → Type 0)
+    (passes : D → Refusal → Result (Unit {0}) NotKept → D → Type 0)
     (opens : C → Option (I × O) → C → Type 0) (closes : C → I → O → C → Type 0)
     (remaining : I → Option (List ℕ)) (contents : O → Option (List ℕ)) (leaves : K → KeptServer → Type 0)
     (is_clean : K → Type 0) (saves fails : K → KeptServer → K → Type 0) where
-  -- It ran so from a server of which no line was taken, and was ended so.
+  -- It ran so from a server of which no line was taken, with the lines counted behind so many, and was ended so.
   abbrev pub Lives : LiveOptions → (c c' : C)
       → (x : Standing ServerState K) → (k' : K) → (held' : Option (List ℕ)) → (feed feed' : D) → (said said' : Told)
       → (status : ℕ)
       → Type 0
   Lives options c c' x k' held' feed feed' said said' status =
       (went : Went) × (taken : FeedIntake D) × (applied : Bool)
-      × LivesFrom (FromFeed unread takes says) opens closes remaining contents leaves is_clean saves fails
+      × LivesFrom (FromFeed unread takes says passes) opens closes remaining contents leaves is_clean saves fails
       options c c' (record {
         sends = x;
-        takes = record { feed = feed; lines = 0; refused = false; said = said };
+        takes = record { feed = feed; lines = options.lines_before; refused = false; said = said };
         applied = true;
         unknown = 0;
         behind = GoesOn;

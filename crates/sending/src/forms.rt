@@ -11,6 +11,7 @@ use crate::objects::{
     put_answers, put_held_answers, put_joined, put_progress, put_station_applied,
     put_station_refused,
 };
+use crate::sent::Sent;
 use crate::timing::{milliseconds_since, now};
 use json_lines::stamp_of;
 use output_forms::Form;
@@ -73,25 +74,25 @@ fn put_given_up_object(outstanding: usize, output: &mut Output)
     }
 }
 
-/// Puts down the answers to messages that were sent under these counters since then and settled so, the first of which
-/// has this number.
+/// Puts down the answers to these messages, each sent under its counter since then, that were settled so, the first of
+/// which has this number.
 pub(crate) fn put_replies_in<T: Clock>(
     form: Form,
     clock: &T,
     since: u64,
     first: u64,
-    counters: &[u8],
+    sent: &[Sent],
     settled: &Settled,
     output: &mut Output,
 )
     requires countable { first + length settled.now.codes.items < 2 ^ 64 }
-    ensures { (told : List ℕ) × AreReplies form first counters.now settled.now told
+    ensures { (told : List ℕ) × AreReplies form first sent.now settled.now told
         × Adds output.old output.new told }
 {
     match form {
         Form::Lines => put_replies(first, settled.codes.as_slice(), output),
         Form::Words(_) => put_replies(first, settled.codes.as_slice(), output),
-        Form::Json => put_reply_objects(clock, since, first, counters, settled, output),
+        Form::Json => put_reply_objects(clock, since, first, sent, settled, output),
     }
 }
 
@@ -100,12 +101,12 @@ fn put_reply_objects<T: Clock>(
     clock: &T,
     since: u64,
     first: u64,
-    counters: &[u8],
+    sent: &[Sent],
     settled: &Settled,
     output: &mut Output,
 )
     requires countable { first + length settled.now.codes.items < 2 ^ 64 }
-    ensures { (told : List ℕ) × AreReplies AsJson first counters.now settled.now told
+    ensures { (told : List ℕ) × AreReplies AsJson first sent.now settled.now told
         × Adds output.old output.new told }
 {
     let stamp = stamp_of(clock);
@@ -115,32 +116,32 @@ fn put_reply_objects<T: Clock>(
         settled.tries,
         milliseconds,
         first,
-        counters,
+        sent,
         settled.codes.as_slice(),
         output,
     );
 }
 
-/// Puts down the answers to messages that were held, of which the first has this number: those that are not marked
-/// waited under these counters, were sent since then and settled so.
+/// Puts down the answers to messages that were held, of which the first has this number: those that are not marked are
+/// these, which waited each under its counter, were sent since then and settled so.
 pub(crate) fn put_held_in<T: Clock>(
     form: Form,
     clock: &T,
     since: u64,
     first: u64,
     marks: &[bool],
-    counters: &[u8],
+    sent: &[Sent],
     settled: &Settled,
     output: &mut Output,
 )
     requires countable { first + length marks.now < 2 ^ 64 }
-    ensures { (told : List ℕ) × AreHeld form first marks.now counters.now settled.now told
+    ensures { (told : List ℕ) × AreHeld form first marks.now sent.now settled.now told
         × Adds output.old output.new told }
 {
     match form {
         Form::Lines => put_held(first, marks, settled.codes.as_slice(), output),
         Form::Words(_) => put_held(first, marks, settled.codes.as_slice(), output),
-        Form::Json => put_held_objects(clock, since, first, marks, counters, settled, output),
+        Form::Json => put_held_objects(clock, since, first, marks, sent, settled, output),
     }
 }
 
@@ -150,12 +151,12 @@ fn put_held_objects<T: Clock>(
     since: u64,
     first: u64,
     marks: &[bool],
-    counters: &[u8],
+    sent: &[Sent],
     settled: &Settled,
     output: &mut Output,
 )
     requires countable { first + length marks.now < 2 ^ 64 }
-    ensures { (told : List ℕ) × AreHeld AsJson first marks.now counters.now settled.now told
+    ensures { (told : List ℕ) × AreHeld AsJson first marks.now sent.now settled.now told
         × Adds output.old output.new told }
 {
     let stamp = stamp_of(clock);
@@ -166,7 +167,7 @@ fn put_held_objects<T: Clock>(
         milliseconds,
         first,
         marks,
-        counters,
+        sent,
         settled.codes.as_slice(),
         output,
     );

@@ -41,16 +41,17 @@ impl<'f, 'e, F: Feed, E: Write> Model for Intake<'f, 'e, F, E> {
 }
 
 impl<'f, 'e, F: Feed, E: Write> Intake<'f, 'e, F, E> {
-    /// The lines of this feed, of which none was taken.
+    /// The lines of this feed, of which none was taken, counted behind so many.
     pub(crate) fn new(
         alloc: Global,
+        lines_before: usize,
         feed: &'f mut F,
         errors: &'e mut NoticesTo<E>,
     ) -> Intake<'f, 'e, F, E>
         ensures { result ≡ record {
           at = record {
             feed = feed.old;
-            lines = 0;
+            lines = lines_before;
             refused = false;
             said = errors.old;
           };
@@ -63,7 +64,7 @@ impl<'f, 'e, F: Feed, E: Write> Intake<'f, 'e, F, E> {
             feed,
             errors,
             tally: Tally {
-                lines: 0,
+                lines: lines_before,
                 refused: false,
             },
             line: Vec::new(alloc),
@@ -75,7 +76,8 @@ impl<'f, 'e, F: Feed, E: Write> Intake<'f, 'e, F, E> {
     pub(crate) fn take(&mut self, reading: &Reading<'_>, batch: &mut Vec<Message>) -> After
         requires empty { batch.old.items ≡ [] }
         requires some { 1 ≤ reading.now.size }
-        ensures takes { FromFeed F.remaining F.takes F.says reading.now batch.new.items result self.old.at self.new.at }
+        ensures takes { FromFeed F.remaining F.takes F.says F.passes reading.now batch.new.items result self.old.at
+            self.new.at }
         ensures feed { self.new.feed ≡ self.old.feed }
         ensures errors { self.new.errors ≡ self.old.errors }
     {

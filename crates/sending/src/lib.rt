@@ -3,7 +3,6 @@
 #![tactic(auto)]
 
 mod beginning;
-mod counters;
 mod course;
 mod forms;
 mod intake;
@@ -12,6 +11,7 @@ mod lives;
 mod objects;
 mod options;
 mod run;
+mod sent;
 mod station;
 mod teller;
 mod timing;

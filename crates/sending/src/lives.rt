@@ -44,7 +44,8 @@ pub(crate) fn run_all<K: Keep<SavedServer>, F: Feed, W: Write, E: Write, C: Conn
     requires not_joined { IsTrue due → course.old.progress.joined ≡ false }
     requires countable { course.old.progress.taken < 2 ^ 63 }
     ensures runs { (again : ℕ) × (last : ServerState)
-        × RunsFor (FromFeed F.remaining F.takes F.says) C.opens C.closes C.Input.remaining C.Output.contents K.leaves
+        × RunsFor (FromFeed F.remaining F.takes F.says F.passes) C.opens C.closes C.Input.remaining C.Output.contents
+        K.leaves
         K.is_clean K.saves K.fails
         options.now due again connect.old connect.new (live server keeper.old intake.old teller.old course.old)
         (live last keeper.new intake.new teller.new course.new) result
@@ -91,7 +92,8 @@ fn run_again<K: Keep<SavedServer>, F: Feed, W: Write, E: Write, C: Connections, 
     requires exact { IsTrue (is_exact address) }
     requires countable { course.old.progress.taken < 2 ^ 63 }
     ensures runs { (before : ServerState) → (last : ServerState)
-        × RunsAgain (FromFeed F.remaining F.takes F.says) C.opens C.closes C.Input.remaining C.Output.contents K.leaves
+        × RunsAgain (FromFeed F.remaining F.takes F.says F.passes) C.opens C.closes C.Input.remaining C.Output.contents
+        K.leaves
         K.is_clean K.saves K.fails
         options.now address connect.old connect.new (live before keeper.old intake.old teller.old course.old)
         (live last keeper.new intake.new teller.new course.new) result }
@@ -161,7 +163,8 @@ fn run_one<K: Keep<SavedServer>, F: Feed, W: Write, E: Write, C: Connections, T:
     requires not_joined { IsTrue due → course.old.progress.joined ≡ false }
     requires countable { course.old.progress.taken < 2 ^ 63 }
     ensures runs { (last : ServerState)
-        × RunsOne (FromFeed F.remaining F.takes F.says) C.opens C.closes C.Input.remaining C.Output.contents K.leaves
+        × RunsOne (FromFeed F.remaining F.takes F.says F.passes) C.opens C.closes C.Input.remaining C.Output.contents
+        K.leaves
         K.is_clean K.saves K.fails
         options.now due connect.old connect.new (live server keeper.old intake.old teller.old course.old)
         (live last keeper.new intake.new teller.new course.new) result }

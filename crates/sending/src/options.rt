@@ -11,6 +11,8 @@ pub struct LiveOptions<'a> {
     pub limits: Limits,
     /// How its lines are read.
     pub reading: Reading<'a>,
+    /// How many lines come before the first of the input: the numbers of its lines are counted behind them.
+    pub lines_before: usize,
     /// Whether its encoder is joined even where it was joined before. What waits is then given up.
     pub join: bool,
     /// Whether an encoder is taken for a new one where messages are outstanding and each try was spent: it is joined,

@@ -58,7 +58,8 @@ pub fn run_live<K: Keep<SavedServer>, F: Feed, W: Write, E: Write, C: Connection
     requires countable { start.progress.taken < 2 ^ 63 }
     requires some { 1 ≤ options.now.reading.size }
     requires most { options.now.reading.size ≤ 8 }
-    ensures runs { Lives F.remaining F.takes F.says C.opens C.closes C.Input.remaining C.Output.contents K.leaves
+    ensures runs { Lives F.remaining F.takes F.says F.passes C.opens C.closes C.Input.remaining C.Output.contents
+        K.leaves
         K.is_clean K.saves K.fails
         options.now connect.old connect.new (record {
           runs = start.server;
@@ -69,7 +70,7 @@ pub fn run_live<K: Keep<SavedServer>, F: Feed, W: Write, E: Write, C: Connection
         errors.new result }
     ensures writer { teller.new.writer ≡ teller.old.writer }
 {
-    let mut intake = Intake::new(teller.alloc(), feed, errors);
+    let mut intake = Intake::new(teller.alloc(), options.lines_before, feed, errors);
     let mut applied = true;
     let ran = run_from(
         options,
@@ -109,7 +110,8 @@ fn run_from<K: Keep<SavedServer>, F: Feed, W: Write, E: Write, C: Connections, T
     requires countable { start.progress.taken < 2 ^ 63 }
     requires some { 1 ≤ options.now.reading.size }
     requires most { options.now.reading.size ≤ 8 }
-    ensures lives { LivesFrom (FromFeed F.remaining F.takes F.says) C.opens C.closes C.Input.remaining C.Output.contents
+    ensures lives { LivesFrom (FromFeed F.remaining F.takes F.says F.passes) C.opens C.closes C.Input.remaining
+        C.Output.contents
         K.leaves K.is_clean K.saves K.fails
         options.now connect.old connect.new (record {
           sends = record {
@@ -185,7 +187,8 @@ pub(crate) fn run_sender<
     requires idle { IsTrue due → sender.old.sender.server.held ≡ [] }
     requires not_joined { IsTrue due → course.old.progress.joined ≡ false }
     requires countable { course.old.progress.taken < 2 ^ 63 }
-    ensures runs { RunsLive (FromFeed F.remaining F.takes F.says) C.opens C.closes C.Input.remaining C.Output.contents
+    ensures runs { RunsLive (FromFeed F.remaining F.takes F.says F.passes) C.opens C.closes C.Input.remaining
+        C.Output.contents
         K.leaves K.is_clean K.saves K.fails
         options.now due (live sender.old keeper.old intake.old teller.old course.old)
         (live sender.new keeper.new intake.new teller.new course.new) result }
@@ -213,7 +216,8 @@ fn go_on<K: Keep<SavedServer>, F: Feed, W: Write, E: Write, C: Connections, T: C
     requires some { 1 ≤ options.now.reading.size }
     requires most { options.now.reading.size ≤ 8 }
     requires countable { course.old.progress.taken < 2 ^ 63 }
-    ensures runs { RunsOn (FromFeed F.remaining F.takes F.says) C.opens C.closes C.Input.remaining C.Output.contents
+    ensures runs { RunsOn (FromFeed F.remaining F.takes F.says F.passes) C.opens C.closes C.Input.remaining
+        C.Output.contents
         K.leaves K.is_clean K.saves K.fails
         options.now GoesOn (live sender.old keeper.old intake.old teller.old course.old)
         (live sender.new keeper.new intake.new teller.new course.new) result }
@@ -239,7 +243,7 @@ fn run_turns<K: Keep<SavedServer>, F: Feed, W: Write, E: Write, C: Connections, 
     requires most { options.now.reading.size ≤ 8 }
     requires idle { sender.old.sender.server.held ≡ [] }
     requires countable { course.old.progress.taken < 2 ^ 63 }
-    ensures runs { RunsTurns (FromFeed F.remaining F.takes F.says options.now.reading) C.opens C.closes
+    ensures runs { RunsTurns (FromFeed F.remaining F.takes F.says F.passes options.now.reading) C.opens C.closes
         C.Input.remaining C.Output.contents K.leaves K.is_clean K.saves K.fails
         options.now.form
         (live sender.old keeper.old intake.old teller.old course.old)
@@ -283,13 +287,14 @@ fn make_turn<K: Keep<SavedServer>, F: Feed, W: Write, E: Write, C: Connections, 
     requires most { options.now.reading.size ≤ 8 }
     requires idle { sender.old.sender.server.held ≡ [] }
     requires countable { course.old.progress.taken + 8 < 2 ^ 64 - 1 }
-    ensures made { IfOk result (λ after. Turn (FromFeed F.remaining F.takes F.says options.now.reading) C.opens C.closes
+    ensures made { IfOk result (λ after. Turn (FromFeed F.remaining F.takes F.says F.passes options.now.reading) C.opens
+        C.closes
         C.Input.remaining C.Output.contents K.leaves K.is_clean
         K.saves K.fails options.now.form
         (live sender.old keeper.old intake.old teller.old course.old)
         (live sender.new keeper.new intake.new teller.new course.new) after (Ok tt)) }
     ensures stopped { IfErr result (λ stop. (after : Next)
-        × Turn (FromFeed F.remaining F.takes F.says options.now.reading) C.opens C.closes C.Input.remaining
+        × Turn (FromFeed F.remaining F.takes F.says F.passes options.now.reading) C.opens C.closes C.Input.remaining
         C.Output.contents K.leaves K.is_clean
         K.saves K.fails options.now.form
         (live sender.old keeper.old intake.old teller.old course.old)

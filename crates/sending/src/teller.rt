@@ -11,6 +11,7 @@ ghost use Rattle.sending.specs.Station.{JoinedTold};
 use crate::forms::{
     put_given_up_in, put_held_in, put_not_joined_in, put_replies_in, put_taken_in, put_unknown_in,
 };
+use crate::sent::Sent;
 use crate::timing::now;
 use kept_jobs::{KeptStop, stop_for, write_told};
 use output_forms::Form;
@@ -154,19 +155,20 @@ impl<'a, W: Write, T: Clock> Teller<'a, W, T> {
     }
 
     /// Tells what the encoder answered to messages that were held, of which the first has this number: those that are
-    /// not marked waited under these counters, were sent since then and settled so. Says how the run goes on.
+    /// not marked are these, which waited each under its counter, were sent since then and settled so. Says how the run
+    /// goes on.
     pub(crate) fn tell_held(
         &mut self,
         form: Form,
         since: u64,
         first: u64,
         marks: &[bool],
-        counters: &[u8],
+        sent: &[Sent],
         ended: &Result<Settled, KeptOutstanding>,
         counts: ServerCounts,
     ) -> Result<(), KeptStop>
         requires countable { first + length marks.now < 2 ^ 64 }
-        ensures tells { AnswersTold (AreHeld form first marks.now counters.now) counts ended.now self.old.held
+        ensures tells { AnswersTold (AreHeld form first marks.now sent.now) counts ended.now self.old.held
             self.new.held result }
         ensures writer { self.new.writer ≡ self.old.writer }
     {
@@ -179,7 +181,7 @@ impl<'a, W: Write, T: Clock> Teller<'a, W, T> {
                     since,
                     first,
                     marks,
-                    counters,
+                    sent,
                     settled,
                     &mut output,
                 );
@@ -190,20 +192,20 @@ impl<'a, W: Write, T: Clock> Teller<'a, W, T> {
         }
     }
 
-    /// Tells what the encoder answered to messages that were sent under these counters since then and settled so, the
-    /// last of which has this number, and says how the run goes on. Nothing is told of messages that are outstanding,
-    /// or where a save failed.
+    /// Tells what the encoder answered to these messages, each sent under its counter since then, that were settled so,
+    /// the last of which has this number, and says how the run goes on. Nothing is told of messages that are
+    /// outstanding, or where a save failed.
     pub(crate) fn tell_replies(
         &mut self,
         form: Form,
         since: u64,
         last: u64,
-        counters: &[u8],
+        sent: &[Sent],
         ended: &Result<Settled, KeptOutstanding>,
         counts: ServerCounts,
     ) -> Result<(), KeptStop>
         requires countable { last < 2 ^ 64 - 1 }
-        ensures tells { AnswersTold (RepliesOf form last counters.now) counts ended.now self.old.held self.new.held
+        ensures tells { AnswersTold (RepliesOf form last sent.now) counts ended.now self.old.held self.new.held
             result }
         ensures writer { self.new.writer ≡ self.old.writer }
     {
@@ -211,15 +213,7 @@ impl<'a, W: Write, T: Clock> Teller<'a, W, T> {
             Ok(settled) => {
                 let first = first_of(last, settled.codes.len());
                 let mut output = Output::new(self.alloc);
-                put_replies_in(
-                    form,
-                    self.clock,
-                    since,
-                    first,
-                    counters,
-                    settled,
-                    &mut output,
-                );
+                put_replies_in(form, self.clock, since, first, sent, settled, &mut output);
                 write_told(&mut output, self.writer)
             }
             Err(KeptOutstanding::Outstanding(reason)) => Err(stop_for(*reason, counts)),

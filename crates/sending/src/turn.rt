@@ -3,9 +3,9 @@ ghost use Rattle.std.specs.Prelude.{◌≡◌, ◌≢◌, ◌≤◌, ◌<◌, �
 ghost use Rattle.uecp_net.specs.Keeping.{taking};
 ghost use Rattle.sending.specs.Run.{SendsBatch, SendsSome, SettlesLive, are_applied, unknown_of, marks_in, stands};
 
-use crate::counters::{counters_after, counters_of};
 use crate::course::Course;
 use crate::lines::all_applied;
+use crate::sent::{sent_after, waiting_of};
 use crate::teller::{Teller, first_of};
 use arrayvec::ArrayVec;
 use kept_jobs::KeptStop;
@@ -42,7 +42,7 @@ pub(crate) fn send_batch<K: Keep<SavedServer>, W: Write, C: Connections, T: Cloc
     ensures loan { sender.new.loan ≡ sender.old.loan }
     ensures writer { teller.new.writer ≡ teller.old.writer }
 {
-    let counters = counters_after(sender.server().last(), batch.len());
+    let sent = sent_after(sender.server().last(), batch);
     let since = teller.now();
     let ended = send_kept(sender, keeper, &mut course.progress, batch);
     course.applied = course.applied && are_applied(&ended);
@@ -51,7 +51,7 @@ pub(crate) fn send_batch<K: Keep<SavedServer>, W: Write, C: Connections, T: Cloc
         form,
         since,
         course.progress.taken,
-        counters.as_slice(),
+        sent.as_slice(),
         &ended,
         sender.server().counts(),
     )
@@ -108,7 +108,7 @@ pub(crate) fn settle_first<K: Keep<SavedServer>, W: Write, C: Connections, T: Cl
         return Ok(());
     }
     let marks = marks_of(sender.server());
-    let counters = counters_of(sender.server());
+    let sent = waiting_of(sender.server());
     let since = teller.now();
     let ended = settle_kept(sender, keeper, course.progress);
     course.applied = course.applied && are_applied(&ended);
@@ -118,7 +118,7 @@ pub(crate) fn settle_first<K: Keep<SavedServer>, W: Write, C: Connections, T: Cl
         since,
         first_of(course.progress.taken, marks.len()),
         marks.as_slice(),
-        counters.as_slice(),
+        sent.as_slice(),
         &ended,
         sender.server().counts(),
     )

@@ -10,7 +10,7 @@ use Rattle.uecp_text.specs.Faults.{Fails, error_lines}
 use Rattle.commands.specs.Jobs.{is_device}
 use Rattle.commands.specs.declared.job.Job.{Job}
 use Rattle.commands.specs.declared.job.Job.TheVariants.{AnswerWith, LineWith, Encoder, EncoderWith, Server, ServerWith}
-use Rattle.commands.specs.declared.job.Job.TheVariants.{Send, Watch, State, Receive, Conformance, Page}
+use Rattle.commands.specs.declared.job.Job.TheVariants.{Send, Watch, State, Receive, Conformance, Page, Quote, Phrases}
 use Rattle.rds_store.specs.Value.{Store}
 use Rattle.uecp_encoder.specs.State.{EncoderState}
 use Rattle.uecp_link.specs.Server.{ServerState}
@@ -30,7 +30,7 @@ use Rattle.notices.specs.Told.{Told, Says}
 
 -- ---- what comes of a job
 -- What comes of these is told by the calls that do them, and not here: groups on the air, a ladder, a device, what goes
--- on until it is stopped, and conformance cases.
+-- on until it is stopped, conformance cases, quoted lines, and the page of phrases.
 abbrev pub IsApart : Job → Type 0
 IsApart (AnswerWith o) = is_some o.air ≡ true
 IsApart (LineWith o) = is_some o.ladder ≡ true
@@ -39,6 +39,8 @@ IsApart (Send o) = Unit {0}
 IsApart (Receive o) = Unit {0}
 IsApart (Conformance o) = Unit {0}
 IsApart (Page o) = Unit {0}
+IsApart Quote = Unit {0}
+IsApart Phrases = Unit {0}
 IsApart job = ⊥
 
 -- All of it was done: of its input; or its connections were served, and then no input was read; or its messages were

@@ -58,12 +58,14 @@ fn main(rt: HostRuntime) -> ExitCode {
             let mut writer = LinesOut::new(alloc, &output, &patience, Voice::Log, name);
             let mut effects = LinesOut::new(alloc, &output, &patience, Voice::Log, name);
             let mut objects = LinesOut::new(alloc, &output, &patience, Voice::Log, name);
+            let mut refusals = LinesOut::new(alloc, &output, &patience, Voice::Log, name);
             let hands = Hands {
                 input: STANDARD_INPUT,
                 losses: &mut losses,
                 notices: &mut notices,
                 effects: &mut effects,
                 objects: &mut objects,
+                refusals: &mut refusals,
                 patience: &patience,
             };
             let status = run(&rt, words.as_slice(), &mut writer, &mut errors, hands);

@@ -38,6 +38,7 @@ use line_feed::{Arrival, LineFeed};
 use live_edges::{NoticeForm, Polled, Watch};
 use notices::{NoticesTo, fail};
 use page_server::run_page_over_tcp;
+use phrase_commands::{run_quote, tell_phrases};
 use receive_command::{run_receive, run_receive_bits};
 use send_commands::{Dialling, Teller, run_send_over_tcp};
 use state_jobs::{OpenStates, run_server_in, tell_state};
@@ -65,6 +66,8 @@ pub struct Hands<'a, M: Write, F: Write> {
     pub effects: &'a mut F,
     /// The same in objects of what is said on `notices`.
     pub objects: &'a mut F,
+    /// And of lines that are refused.
+    pub refusals: &'a mut F,
     /// For how long those are waited for who read what is written and said.
     pub patience: &'a Patience,
 }
@@ -121,8 +124,8 @@ pub fn run_words<
         S.EncoderKeeper.is_clean (S.gives_server states.now) S.ServerKeeper.leaves S.ServerKeeper.is_clean
         (map string_bytes words.now) (R.remaining reader.old) (R.remaining reader.new) (W.contents writer.old)
         (W.contents writer.new)) }
-    // Whatever the status is, this comes of groups on the air, a ladder, an encoder, a display, conformance cases, and
-    // a page; or the words gave no job.
+    // Whatever the status is, this comes of groups on the air, a ladder, an encoder, a display, conformance cases, a
+    // page, quoted lines, and the page of phrases; or the words gave no job.
     ensures comes { AskForText (map string_bytes words.now)
         ⊎ (HasNoJob (map string_bytes words.now) errors.old errors.new
         ⊎ HasCome (ComesOf ⟦<TcpStream as Read>⟧.remaining
@@ -236,6 +239,8 @@ fn run_asked<
             hands.patience.limit(LOG_WAIT, false);
             run_page_over_tcp(alloc, options, reader, hands.input, errors, net)
         }
+        Job::Quote => run_quote(alloc, reader, writer, errors),
+        Job::Phrases => tell_phrases(writer, errors),
         Job::Answer { .. }
         | Job::Show
         | Job::ShowWith(_)
@@ -385,6 +390,7 @@ fn be_device<
         notices,
         effects,
         objects: _,
+        refusals: _,
         patience,
     } = hands;
     patience.limit(
@@ -587,51 +593,57 @@ fn send<
         notices,
         effects,
         objects,
+        refusals,
         patience: _,
     } = hands;
-    let machine = (net, states, input);
+    let machine = (alloc, net, states, input);
     if is_objects(options.form) {
         return send_over_line(
-            alloc, options, reader, writer, errors, effects, objects, machine,
+            options, reader, writer, errors, effects, objects, refusals, machine,
         );
     }
     send_over_line(
-        alloc, options, reader, writer, errors, losses, notices, machine,
+        options, reader, writer, errors, losses, notices, refusals, machine,
     )
 }
 
-/// Does that where a connection that is lost while nothing is sent is told on `losses`, and all else of the line on
-/// `notices`.
+/// Does that where a connection that is lost while nothing is sent is told on `losses`, all else of the line on
+/// `notices`, and in JSON lines that are refused on `refusals`.
 fn send_over_line<
     R: Read,
     W: Write,
     E: Write,
     M: Write,
+    Q: Write,
     N: Net<Listener = TcpListener, Stream = TcpStream> + Clock + Files,
     S: OpenStates,
 >(
-    alloc: Global,
     options: &SendOptions,
     reader: &mut R,
     writer: &mut W,
     errors: &mut NoticesTo<E>,
     losses: &mut M,
     notices: &mut M,
-    machine: (&N, &S, RawFd),
+    refusals: &mut Q,
+    machine: (Global, &N, &S, RawFd),
 ) -> u8
     requires { IsLiveInRange options.now }
     ensures { ComesOfSend ⟦<TcpStream as Read>⟧.remaining ⟦<TcpStream as Write>⟧.contents
-        (S.gives_server machine.entry.1.now) (S.refuses_server machine.entry.1.now)
-        (S.closes_server machine.entry.1.now) S.ServerKeeper.leaves S.ServerKeeper.is_clean S.ServerKeeper.saves
+        (S.gives_server machine.entry.2.now) (S.refuses_server machine.entry.2.now)
+        (S.closes_server machine.entry.2.now) S.ServerKeeper.leaves S.ServerKeeper.is_clean S.ServerKeeper.saves
         S.ServerKeeper.fails options.now
         (R.remaining reader.old) (W.contents writer.old)
         (W.contents writer.new) errors.old errors.new result }
 {
-    let (net, states, input) = machine;
+    let (alloc, net, states, input) = machine;
     let watch = Watch::new(notice_form(options.form));
     let arrival = Polled::new(alloc, net, input, &watch, &mut *losses);
     let mut teller = Teller::new(alloc, net, writer);
-    let dialling = Dialling { net, watch: &watch };
+    let dialling = Dialling {
+        net,
+        watch: &watch,
+        states,
+    };
     let status = run_send_over_tcp(
         options,
         reader,
@@ -640,7 +652,7 @@ fn send_over_line<
         errors,
         dialling,
         notices,
-        states,
+        refusals,
     );
     let _writer = teller.finish();
     watch.finish();

@@ -63,8 +63,10 @@ fn put_head(address: Address, counter: u8, output: &mut Output)
     number_field("counter", usize::from(counter), output);
 }
 
-/// A message, its elements, and its fault.
-fn put_message(message: &[u8], output: &mut Output)
+/// The members of a message, behind those of what it came in: `message`, its bytes in hexadecimal digits; `elements`, a
+/// list of its elements as objects; and `fault`, where a beginning alone is elements, the code and the place of what
+/// stands behind it, else null.
+pub fn put_message(message: &[u8], output: &mut Output)
     ensures { Adds output.old output.new (fields_text (message_fields message.now)) }
 {
     digits_field("message", message, output);

@@ -5,6 +5,7 @@
 //! caller has the value from the crates below. It takes no memory but the output's.
 //!
 //! - [`put_found`], [`put_answer`], [`put_step`]: the line of one finding, answer or event.
+//! - [`put_message`]: the members of a message, within the line of what it came in.
 //! - [`put_given_up`]: the line of a server that was started again.
 //! - [`put_totals`], [`put_store`]: the lines that come last.
 //! - [`meaning`], [`put_code`]: what a reply's code means, and the members of both.
@@ -17,7 +18,7 @@ mod responses;
 mod steps;
 mod store;
 
-pub use findings::put_found;
+pub use findings::{put_found, put_message};
 pub use meanings::meaning;
 pub use responses::put_answer;
 pub use steps::{put_code, put_given_up, put_step, put_totals};

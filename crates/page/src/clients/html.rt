@@ -3,8 +3,8 @@
 
 /// What a browser may load for it, and from where (Content Security Policy Level 3).
 pub(crate) const POLICY: &[u8] = b"default-src 'none'; \
-    script-src 'sha256-xzjEK5PIQ1fapCARNIev/HQalf2oh2sUk7U86DoH+M0='; \
-    style-src 'sha256-Whk7X6C8pvGtaFWsNPpJ4w4zvmyQ5Ger3iUq5Pak9g8='; \
+    script-src 'sha256-6v9Ta7VKyHIF3BCudUcmNb6HGD3RphYnTg6UwHdwlh4='; \
+    style-src 'sha256-Ti9syiHcuXrANDwTYKMKBap0vtLSxY2JclLvvugTnjs='; \
     connect-src 'self'; \
     img-src data:; \
     base-uri 'none'; \
@@ -38,17 +38,20 @@ h2 { font-size: 1.15rem; margin: 1.25rem 0 0.5rem; }
 .line h3 { font-size: 1.15rem; font-weight: bold; min-width: 0; overflow-wrap: anywhere; }
 .line p { margin: 0; }
 .bad .line p { color: #b3261e; font-weight: bold; }
+.minutes { display: block; width: 100%; max-width: 40rem; height: 1.75rem; margin: 0 0 0.5rem; fill: #05a;
+  border-bottom: 1px solid #999; }
 article { border: 2px solid #555; border-radius: 0.4rem; padding: 0.6rem 0.8rem; min-width: 0; }
 .gone article { color: #333; border-style: dashed;
   background: repeating-linear-gradient(135deg, #ddd 0 10px, #ccc 10px 20px); }
 .known { font-weight: bold; margin: 0.2rem 0 0; }
+.end { font-size: 0.9rem; font-style: italic; margin: 0.2rem 0 0; }
 h3, h4 { font-size: 1rem; font-weight: normal; margin: 0; }
 .name { font: bold 2rem/1.2 monospace; margin: 0.2rem 0; white-space: pre-wrap; overflow-wrap: anywhere; }
 .rt { font-family: monospace; margin: 0.2rem 0; white-space: pre-wrap; overflow-wrap: anywhere; min-height: 1.45em; }
 .rest { margin: 0.2rem 0 0; }
 .band { display: flex; justify-content: space-between; gap: 0.5rem; margin: 0.4rem 0; padding: 0.3rem 0.6rem;
   border-radius: 0.3rem; color: #1c1500; background: #ffc400; font-weight: bold; }
-.band[hidden], .known[hidden], .line [hidden] { display: none; }
+.band[hidden], .known[hidden], .end[hidden], .line [hidden] { display: none; }
 table { border-collapse: collapse; width: 100%; max-width: 34rem; }
 th, td { text-align: left; padding: 0.2rem 0.5rem 0.2rem 0; border-bottom: 1px solid #999; font-weight: normal; }
 td { text-align: right; font-variant-numeric: tabular-nums; }
@@ -76,6 +79,7 @@ button { font: inherit; padding: 0.25rem 0.75rem; }
   article { border-color: #aaa; }
   .gone article { color: #ccc; background: repeating-linear-gradient(135deg, #333 0 10px, #2a2a2a 10px 20px); }
   .bad .line p { color: #ff8a80; }
+  .minutes { fill: #7bf; }
   #alarms li { color: #ffd9d5; background: #33191a; border-color: #ff8a80; }
   li { border-bottom-color: #444; }
   li.bad { border-left-color: #ff8a80; }
@@ -102,6 +106,8 @@ button { font: inherit; padding: 0.25rem 0.75rem; }
 <p><button id="hold" type="button" aria-pressed="false">Hold</button></p>
 <ol id="events" tabindex="0" aria-label="Last events, the newest first"></ol>
 </main>
+<template id="chart"><svg class="minutes" role="img" viewBox="0 0 60 20" preserveAspectRatio="none"><title></title>
+<path></path></svg></template>
 <noscript><p>This page needs JavaScript; the state is at /state, the counts at /metrics.</p></noscript>
 <script>
 "use strict";
@@ -110,10 +116,13 @@ const AFTER = 200;
 const REPLAY = 2000;
 const OPEN_MAX = 128;
 const ASK_EACH = 10000;
-const COUNTS = [["sent", "messages sent"], ["sent_refusals", "sent, and refused"],
-  ["messages", "messages come"], ["refusals", "come, and refused"], ["repeats", "come again"],
-  ["empty", "empty messages come"], ["dropped", "segments dropped"], ["connections", "connections"],
-  ["not_told", "lines not told"], ["lines", "lines"], ["others", "other lines"], ["further", "lines of no card"]];
+const COUNTS = [["sent", "messages answered"], ["sent_refusals", "answered and refused"],
+  ["refused_lines", "lines refused before they were sent"], ["messages", "messages received"],
+  ["refusals", "received and refused"], ["repeats", "received again (answered by the kept reply)"],
+  ["empty", "empty messages received (joining sends 255)"], ["dropped", "segments received that are no frame"],
+  ["connections", "connections of the encoder"], ["not_told", "lines that an end could not tell"],
+  ["lines", "objects of the lines above"], ["further", "objects of lines that are not shown"],
+  ["others", "lines of input that are no object"]];
 const TYPES = ["None", "News", "Current Affairs", "Information", "Sport", "Education", "Drama", "Cultures",
   "Science", "Varied Speech", "Pop Music", "Rock Music", "Easy Listening", "Light Classics M",
   "Serious Classics", "Other Music", "Weather & Metr", "Finance", "Children's Progs", "Social Affairs",
@@ -133,6 +142,9 @@ let held = false, waiting = [], asked = false, again = false, before = [], opene
 let lines = null, unknown = new Set(), on_since = new Map(), empties = new Map();
 let limit = null, answered = 0;
 
+function set_attribute(element, name, text) {
+  if (element.getAttribute(name) !== text) element.setAttribute(name, text);
+}
 function set_text(element, text) { if (element.textContent !== text) element.textContent = text; }
 function title_of(s) {
   const set = s.set === 0 ? "current set" : s.set === 254 ? "other sets" : s.set === 255 ? "all sets" : "set " + s.set;
@@ -176,15 +188,27 @@ function place_of(e) {
   const named = (name, number, text) => number === undefined || number === 0 ? "" : name + " " + text(number) + " ";
   return e.element === "select" ? "" : named("set", e.set, String) + named("service", e.service, hexadecimal);
 }
+function parts_of(o) {
+  return (o.elements ?? []).map(e => [e, (ELEMENTS[e.element] ?? (e => ["frame", e.element]))(e)]);
+}
+function words_of(parts) { return parts.map(([e, [, text]]) => place_of(e) + text).join(", "); }
 function frame_said(o) {
-  const parts = (o.elements ?? []).map(e => [e, (ELEMENTS[e.element] ?? (e => ["frame", e.element]))(e)]);
-  const words = parts.map(([e, [, text]]) => place_of(e) + text).join(", ");
+  const parts = parts_of(o), words = words_of(parts);
   const bad = o.fault === null || o.fault === undefined ? "" : "fault " + o.fault.code + " at " + o.fault.place;
   const about = parts.length > 0 ? parts[0][1][0] : "frame";
   return [about, joined_by(", ", words, bad) || "an empty message", bad !== ""];
 }
 function about_of(o) { return o.code === "00" ? "applied" : "refusal"; }
 function coded(o) { return o.code === "00" ? "applied" : "refused: " + o.meaning; }
+// A line that the studio's end refused: which, at which column, what is wrong with it, and what it says.
+function refused_said(o) {
+  const place = typeof o.column === "number" ? o.number + ":" + o.column : o.number;
+  return joined_by(": ", "line " + place + " was refused", o.meaning, o.text);
+}
+function answer_said(o) {
+  const words = joined_by(": ", "message " + o.number + " " + coded(o), words_of(parts_of(o)));
+  return [about_of(o), words, o.code !== "00"];
+}
 const ANSWERED = {
   new: o => [about_of(o), coded(o) + (o.sent === false ? ", reply not sent" : ""), o.code !== "00" || o.sent === false],
   repeat: o => ["repeat", "it came again, and was answered as before: " + coded(o), false],
@@ -212,7 +236,7 @@ function stored_of(o) {
 const KINDS = {
   frame: frame_said,
   answered: o => (ANSWERED[o.answer] ?? (() => ["answer", String(o.answer), false]))(o),
-  answer: o => [about_of(o), "message " + o.number + " " + coded(o), o.code !== "00"],
+  answer: answer_said,
   reply: o => o.fresh ? ["applied", "answered", false] : ["repeat", "it came again, and was answered as before", false],
   not_next: () => ["passed over", "it has not the next number", true],
   unnumbered: () => ["passed over", "it has no number", false],
@@ -231,6 +255,7 @@ const KINDS = {
   store: o => ["store", "the store: set " + o.current + " of " + o.sets + " is current", false],
   service: o => ["store", stored_of(o), false],
   queued: o => ["store", "a group of type " + o.type + " waits", false],
+  line_refused: o => ["refusal", refused_said(o), true],
   bad_line: o => ["line", String(o.text), true],
   not_told: o => ["line", whole(o.lines, "line was", "lines were") + " not told", true],
   connected: o => ["connection", "connected to " + o.host + " port " + o.port, false],
@@ -310,6 +335,7 @@ function alarms_of(lines) {
     if (l.refused !== null) {
       alarms.push([l.line, "a message was refused: " + (l.refused.meaning ?? "?"), since_of(l.refused.time)]);
     }
+    if (l.refused_line !== null) alarms.push([l.line, refused_said(l.refused_line), since_of(l.refused_line.time)]);
     if (l.failed) alarms.push([l.line, "the encoder could not save its state", ""]);
     if (is_stale(l)) alarms.push([l.line, "nothing was told", told_since(l)]);
   }
@@ -348,14 +374,23 @@ function new_section(l) {
   head.append(made("h3", "", l.line), made("p", "", ""));
   head.children[0].hidden = l.line === "";
   section.dataset.line = l.line;
-  section.append(head, made("div", "cards", ""));
+  section.append(head, at("chart").content.firstElementChild.cloneNode(true), made("div", "cards", ""));
   return section;
+}
+// A bar for each minute of the last hour, the oldest first, and what they say in words.
+function show_minutes(chart, minutes) {
+  const most = Math.max(...minutes), now = minutes[minutes.length - 1], top = n => (20 - 20 * n / most).toFixed(2);
+  const bars = minutes.map((n, place) => n === 0 ? "" : "M" + place + " 20V" + top(n) + "h0.8V20z").join("");
+  const words = "messages a minute, the last hour: most " + most + ", now " + now;
+  set_text(chart.children[0], words);
+  set_attribute(chart, "aria-label", words);
+  set_attribute(chart.children[1], "d", bars);
 }
 function new_card(l) {
   const card = made("article", "", ""), band = made("p", "band", "");
   band.append(made("span", "", "Traffic announcement"), made("span", "", ""));
   card.append(made(l.line === "" ? "h3" : "h4", "", ""), band, made("p", "name", ""), made("p", "rt", ""));
-  card.append(made("p", "rest", ""), made("p", "known", ""));
+  card.append(made("p", "rest", ""), made("p", "known", ""), made("p", "end", "as the studio was answered"));
   return card;
 }
 // A traffic announcement is shown as on where that is known, and with its time where it was seen to begin.
@@ -375,6 +410,7 @@ function show_cards(l, box, gone, was_known) {
     set_text(card.children[4], rest_of(s));
     set_text(card.children[5], gone ?? "");
     card.children[5].hidden = gone === null;
+    card.children[6].hidden = l.end !== "studio";
   });
   while (box.children.length > l.services.length) {
     on_since.delete(box.lastElementChild.dataset.key);
@@ -398,7 +434,8 @@ function show_line(l, place, is_first) {
   section.classList.toggle("bad", is_bad_link(l));
   section.classList.toggle("gone", gone !== null);
   set_text(section.children[0].children[1], joined_by(", ", link_words(l), heard_of(l)));
-  show_cards(l, section.children[1], gone, !is_first && !unknown.has(l.line));
+  show_minutes(section.children[1], l.minutes);
+  show_cards(l, section.children[2], gone, !is_first && !unknown.has(l.line));
   if (gone === null) unknown.delete(l.line); else unknown.add(l.line);
 }
 function show_lines(told) {

@@ -3,8 +3,9 @@ ghost use Rattle.std.specs.Prelude.{◌≡◌, OnOk, None, [], map};
 ghost use Rattle.serde_json.specs.View.{view};
 ghost use Rattle.page.specs.StateView.{air_of, service_of};
 ghost use Rattle.page.specs.Air.{no_air, air_after, after_answer, after_message, after_telling};
+ghost use Rattle.page.specs.Answered.{is_acknowledged, is_in_doubt, answered_after};
 
-use crate::state::counts::is_kind;
+use crate::state::counts::{is_kind, is_sent};
 use crate::state::members::{number_at, number_or_0, says};
 use crate::state::row::{Row, is_element, is_shown, is_stored};
 use crate::state::services::{tell_of, tells};
@@ -123,6 +124,30 @@ impl Air {
         )
     }
 
+    /// Takes an object of the line as its studio was answered.
+    ///
+    /// Errors: where memory is refused it may have been taken in part.
+    pub(crate) fn take_answer(&mut self, alloc: Global, value: &Value) -> Result<(), AllocError>
+        ensures { OnOk result (air_of self.new ≡ answered_after (view value.now) (air_of self.old)) }
+    {
+        if is_in_doubt(value) {
+            self.forget();
+            return Ok(());
+        }
+        if is_acknowledged(value) {
+            return self.apply(alloc, value);
+        }
+        Ok(())
+    }
+
+    /// Nothing is known any more.
+    fn forget(&mut self)
+        ensures { air_of self.new ≡ no_air }
+    {
+        self.answers = false;
+        self.clear(0);
+    }
+
     /// What each service has, in the order in which they came.
     pub(crate) fn rows(&self) -> &[Row]
         ensures { map service_of result.now ≡ (air_of self.now).services }
@@ -136,4 +161,18 @@ impl Air {
     {
         self.current
     }
+}
+
+/// Whether the encoder answered a message of the studio's with 00.
+fn is_acknowledged(value: &Value) -> bool
+    ensures { result ≡ is_acknowledged (view value.now) }
+{
+    is_sent(value) && says(value, "code", "00")
+}
+
+/// Whether it is not known any more what the encoder has.
+fn is_in_doubt(value: &Value) -> bool
+    ensures { result ≡ is_in_doubt (view value.now) }
+{
+    is_kind(value, "joined") || is_kind(value, "unknown") || is_kind(value, "given_up")
 }

@@ -3,7 +3,7 @@ ghost use Rattle.std.specs.Prelude.{◌≡◌, ◌+◌, ◌-◌, ◌^◌, min};
 ghost use Rattle.serde_json.specs.View.{view};
 ghost use Rattle.page.specs.Members.{says};
 ghost use Rattle.page.specs.Counts.{counted, no_counts, one_more, is_sent, is_message, is_empty, is_repeat, is_kind};
-ghost use Rattle.page.specs.Counts.{is_told, is_new_answer, has_bad_code, lines_not_told};
+ghost use Rattle.page.specs.Counts.{is_told, is_refused_line, is_new_answer, has_bad_code, lines_not_told};
 ghost use Rattle.page.specs.StateView.{counts_of};
 
 use crate::state::members::{flag_at, number_or_0, says};
@@ -18,6 +18,8 @@ pub(crate) struct Counts {
     pub(crate) sent: u64,
     /// Those of them that were refused.
     pub(crate) sent_refusals: u64,
+    /// Lines that the studio's end refused.
+    pub(crate) refused_lines: u64,
     /// Messages that the encoder's end told.
     pub(crate) messages: u64,
     /// Empty messages that it told.
@@ -43,6 +45,7 @@ impl Counts {
             lines: 0,
             sent: 0,
             sent_refusals: 0,
+            refused_lines: 0,
             messages: 0,
             empty: 0,
             repeats: 0,
@@ -61,6 +64,7 @@ impl Counts {
         add(true, &mut self.lines);
         add(is_sent(value), &mut self.sent);
         add(is_sent(value) && is_bad, &mut self.sent_refusals);
+        add(is_refused_line(value), &mut self.refused_lines);
         add(is_message(value), &mut self.messages);
         add(is_empty(value), &mut self.empty);
         add(is_repeat(value), &mut self.repeats);
@@ -92,6 +96,13 @@ pub(crate) fn is_sent(value: &Value) -> bool
     ensures { result ≡ is_sent (view value.now) }
 {
     is_kind(value, "answer")
+}
+
+/// Whether the studio's end refused a line that it was given.
+pub(crate) fn is_refused_line(value: &Value) -> bool
+    ensures { result ≡ is_refused_line (view value.now) }
+{
+    is_kind(value, "line_refused")
 }
 
 /// Whether the encoder's end tells a frame with no message in it.

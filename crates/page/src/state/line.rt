@@ -1,12 +1,18 @@
 //! What is known of one control line (profile).
 ghost use Rattle.std.specs.Prelude.{◌≡◌, OnOk, string_bytes};
 ghost use Rattle.serde_json.specs.View.{view};
-ghost use Rattle.page.specs.StateView.{line_of};
-ghost use Rattle.page.specs.ControlLine.{new_line, is_named, line_after};
+ghost use Rattle.page.specs.StateView.{air_of, line_of};
+ghost use Rattle.page.specs.ControlLine.{new_line, is_named, line_after, air_shown};
+ghost use Rattle.page.specs.Answered.{is_of_encoder};
 
 use crate::state::air::Air;
-use crate::state::counts::Counts;
-use crate::state::link::{Linked, Refusal, failed_after, heard_after, linked_after, refused_after};
+use crate::state::counts::{Counts, is_kind};
+use crate::state::link::{
+    Linked, Refusal, RefusedLine, failed_after, heard_after, linked_after, refused_after,
+    refused_line_after,
+};
+use crate::state::minutes::Minutes;
+use crate::state::row::{is_shown, is_stored};
 use serde_json::Value;
 use std::alloc::{AllocError, Global};
 
@@ -15,20 +21,28 @@ use std::alloc::{AllocError, Global};
 pub(crate) struct Line {
     /// Its name, empty where objects name none.
     pub(crate) name: String,
-    /// What is on the air.
-    pub(crate) air: Air,
+    /// What is on the air, as the encoder's end tells.
+    air: Air,
+    /// What is on the air, as the studio was answered.
+    answered: Air,
+    /// Whether the encoder's end told anything.
+    pub(crate) has_encoder: bool,
     /// What was counted.
     pub(crate) counts: Counts,
     /// What was told of its connection.
     pub(crate) linked: Option<Linked>,
     /// The last message, where it was refused.
     pub(crate) refused: Option<Refusal>,
+    /// The last line of the studio's, where that was refused.
+    pub(crate) refused_line: Option<RefusedLine>,
     /// Whether a save failed.
     pub(crate) failed: bool,
     /// The time that was told last.
     pub(crate) heard: Option<String>,
     /// When the last object that names it came, by the page's clock, in milliseconds.
     pub(crate) told_at: u64,
+    /// How many messages came in each minute.
+    pub(crate) minutes: Minutes,
 }
 
 impl Line {
@@ -39,12 +53,16 @@ impl Line {
         Line {
             name,
             air: Air::new(alloc),
+            answered: Air::new(alloc),
+            has_encoder: false,
             counts: Counts::new(),
             linked: None,
             refused: None,
+            refused_line: None,
             failed: false,
             heard: None,
             told_at: 0,
+            minutes: Minutes::new(),
         }
     }
 
@@ -65,11 +83,40 @@ impl Line {
         }) (line_of self.old)) }
     {
         self.told_at = came;
+        self.minutes.take(&value, came);
         self.counts.count(&value);
         self.linked = linked_after(alloc, &value, self.linked.take())?;
         self.refused = refused_after(alloc, &value, self.refused.take())?;
+        self.refused_line = refused_line_after(alloc, &value, self.refused_line.take())?;
         self.failed = failed_after(&value, self.failed);
         self.heard = heard_after(alloc, &value, self.heard.take())?;
+        self.has_encoder = is_of_encoder(&value) || self.has_encoder;
+        self.answered.take_answer(alloc, &value)?;
         self.air.take(alloc, value)
     }
+
+    /// What is shown as on the air: what the encoder's end tells, where that told anything; else as the studio was
+    /// answered.
+    pub(crate) fn air(&self) -> &Air
+        ensures { air_of result.now ≡ air_shown (line_of self.now) }
+    {
+        if self.has_encoder {
+            &self.air
+        } else {
+            &self.answered
+        }
+    }
+}
+
+/// Whether the encoder's end tells an object.
+fn is_of_encoder(value: &Value) -> bool
+    ensures { result ≡ is_of_encoder (view value.now) }
+{
+    is_kind(value, "frame")
+        || is_kind(value, "answered")
+        || is_kind(value, "connection")
+        || is_kind(value, "store")
+        || is_shown(value)
+        || is_stored(value)
+        || is_kind(value, "reply")
 }

@@ -1,12 +1,12 @@
-//! What the ends of a control line tell of it: its connection, the last refusal, a save that failed (profile).
+//! What the ends of a control line tell of it: its connection, the last refusals, a save that failed (profile).
 ghost use Rattle.std.specs.Prelude.{◌≡◌, IfOk, option_map, string_bytes};
 ghost use Rattle.serde_json.specs.View.{view};
 ghost use Rattle.page.specs.Link.{link_kind, link_told, is_bad, since_when, linked_after, is_verdict, refused_after};
-ghost use Rattle.page.specs.Link.{failed_after, heard_after, was_bad, is_heard};
-ghost use Rattle.page.specs.StateView.{linked_of, refusal_of};
+ghost use Rattle.page.specs.Link.{failed_after, heard_after, was_bad, is_heard, refused_line_after};
+ghost use Rattle.page.specs.StateView.{linked_of, refusal_of, refused_line_of};
 
-use crate::state::counts::{has_bad_code, is_kind, is_new_answer, is_sent};
-use crate::state::members::{says, text_at};
+use crate::state::counts::{has_bad_code, is_kind, is_new_answer, is_refused_line, is_sent};
+use crate::state::members::{number_at, says, text_at};
 use serde_json::Value;
 use std::alloc::{AllocError, Global};
 
@@ -39,6 +39,21 @@ pub(crate) struct Linked {
 pub(crate) struct Refusal {
     /// What its code means.
     pub(crate) meaning: Option<String>,
+    /// When that was told.
+    pub(crate) time: Option<String>,
+}
+
+/// A line that the studio's end was given and refused.
+#[derive(Drop)]
+pub(crate) struct RefusedLine {
+    /// Its number.
+    pub(crate) number: Option<u64>,
+    /// The column at which it is wrong.
+    pub(crate) column: Option<u64>,
+    /// What is wrong with it.
+    pub(crate) meaning: Option<String>,
+    /// What it says.
+    pub(crate) text: Option<String>,
     /// When that was told.
     pub(crate) time: Option<String>,
 }
@@ -172,6 +187,32 @@ pub(crate) fn refused_after(
     let meaning = text_at(alloc, value, "meaning")?;
     let time = text_at(alloc, value, "time")?;
     Ok(Some(Refusal { meaning, time }))
+}
+
+/// The last line that was refused, until a message was answered behind it.
+///
+/// Errors: where memory is refused.
+pub(crate) fn refused_line_after(
+    alloc: Global,
+    value: &Value,
+    before: Option<RefusedLine>,
+) -> Result<Option<RefusedLine>, AllocError>
+    ensures { IfOk result (λ behind. option_map refused_line_of behind
+        ≡ refused_line_after (view value.now) (option_map refused_line_of before)) }
+{
+    if is_refused_line(value) {
+        let meaning = text_at(alloc, value, "meaning")?;
+        let text = text_at(alloc, value, "text")?;
+        let time = text_at(alloc, value, "time")?;
+        return Ok(Some(RefusedLine {
+            number: number_at(value, "number"),
+            column: number_at(value, "column"),
+            meaning,
+            text,
+            time,
+        }));
+    }
+    if is_sent(value) { Ok(None) } else { Ok(before) }
 }
 
 /// Whether the encoder could not save its state, and was not connected again and told no store since.

@@ -21,6 +21,8 @@ pub(crate) enum Metric {
     Sent,
     /// Refusals, by the studio's end.
     SentRefusals,
+    /// Lines that the studio's end refused.
+    RefusedLines,
     /// Messages, by the encoder's end.
     Messages,
     /// Those that came again.
@@ -90,6 +92,13 @@ fn put_counted(lines: &[Line], text: &mut Vec<u8>) -> Result<(), AllocError>
         "Messages that were refused with a code.",
         Metric::SentRefusals,
         Metric::Refusals,
+        lines,
+        text,
+    )?;
+    put_count(
+        "uecp_refused_lines_total",
+        "Lines that the studio's end refused.",
+        Metric::RefusedLines,
         lines,
         text,
     )?;
@@ -257,6 +266,7 @@ fn value_of(metric: Metric, line: &Line) -> Option<u64>
         Metric::Lines => Some(line.counts.lines),
         Metric::Sent => Some(line.counts.sent),
         Metric::SentRefusals => Some(line.counts.sent_refusals),
+        Metric::RefusedLines => Some(line.counts.refused_lines),
         Metric::Messages => Some(line.counts.messages),
         Metric::Repeats => Some(line.counts.repeats),
         Metric::Refusals => Some(line.counts.refusals),

@@ -4,13 +4,16 @@ ghost use Rattle.serde_json.specs.View.{view, members_view};
 ghost use Rattle.serde_json.specs.Written.{compact_text};
 ghost use Rattle.page.specs.Texts.{text_data, flag_data, number_data, service_data, counts_data};
 ghost use Rattle.page.specs.Texts.{services_data, link_data, since_data, refused_data, line_data, lines_data};
-ghost use Rattle.page.specs.Texts.{state_data};
-ghost use Rattle.serde_json.specs.Data.{array, object, no_members};
-ghost use Rattle.page.specs.StateView.{service_of, counts_of, linked_of, refusal_of, line_of, state_of};
+ghost use Rattle.page.specs.Texts.{state_data, end_of, line_head, refused_line_data, numbers_data};
+ghost use Rattle.page.specs.Minutes.{last_hour};
+ghost use Rattle.serde_json.specs.Data.{array, object, string, no_members};
+ghost use Rattle.page.specs.StateView.{service_of, counts_of, linked_of, refusal_of, refused_line_of, line_of};
+ghost use Rattle.page.specs.StateView.{state_of, minutes_of};
 
 use crate::state::counts::Counts;
 use crate::state::line::Line;
-use crate::state::link::{Linked, Refusal};
+use crate::state::link::{Linked, Refusal, RefusedLine};
+use crate::state::minutes::{MINUTES, Minutes, minute_of};
 use crate::state::page::Page;
 use crate::state::row::Row;
 use crate::state::silence::{Moment, silent};
@@ -103,6 +106,12 @@ fn put_counts(
     put(members, alloc, "messages", Value::from(counts.messages))?;
     put(members, alloc, "not_told", Value::from(counts.not_told))?;
     put(members, alloc, "refusals", Value::from(counts.refusals))?;
+    put(
+        members,
+        alloc,
+        "refused_lines",
+        Value::from(counts.refused_lines),
+    )?;
     put(members, alloc, "repeats", Value::from(counts.repeats))?;
     put(members, alloc, "sent", Value::from(counts.sent))?;
     put(
@@ -166,6 +175,37 @@ fn refusal_value(alloc: Global, refusal: &Refusal) -> Result<Value, AllocError>
     Ok(Value::Object(members))
 }
 
+/// The last line, where it was refused, or null.
+fn refused_line_value(alloc: Global, refused: &Option<RefusedLine>) -> Result<Value, AllocError>
+    ensures { IfOk result (λ value. view value ≡ refused_line_data (option_map refused_line_of refused.now)) }
+{
+    match refused {
+        Some(line) => line_refused_value(alloc, line),
+        None => Ok(Value::Null),
+    }
+}
+
+/// A line that was refused as an object.
+fn line_refused_value(alloc: Global, line: &RefusedLine) -> Result<Value, AllocError>
+    ensures { IfOk result (λ value. view value ≡ refused_line_data (Some (refused_line_of line.now))) }
+{
+    let mut members = Map::new(alloc);
+    let list = &mut members;
+    put(list, alloc, "column", number_value(line.column))?;
+    put(list, alloc, "meaning", text_value(alloc, &line.meaning)?)?;
+    put(list, alloc, "number", number_value(line.number))?;
+    put(list, alloc, "text", text_value(alloc, &line.text)?)?;
+    put(list, alloc, "time", text_value(alloc, &line.time)?)?;
+    Ok(Value::Object(members))
+}
+
+/// By which end it is known what is on the air.
+fn end_value(alloc: Global, has_encoder: bool) -> Result<Value, AllocError>
+    ensures { IfOk result (λ value. view value ≡ string (end_of has_encoder)) }
+{
+    Value::try_from_str(alloc, if has_encoder { "encoder" } else { "studio" })
+}
+
 /// A control line as an object.
 fn line_value(alloc: Global, now: u64, line: &Line) -> Result<Value, AllocError>
     ensures { IfOk result (λ value. view value ≡ line_data now (line_of line.now)) }
@@ -185,9 +225,18 @@ fn put_line(
     requires empty { members_view members.old.entries ≡ no_members }
     ensures { OnOk result (object (members_view members.new.entries) ≡ line_data now (line_of line.now)) }
 {
-    let services = services_value(alloc, line.air.rows())?;
+    put_head(alloc, line, members)?;
+    put_rest(alloc, now, line, members)
+}
+
+/// Puts those members of a control line that come first into an object that has none.
+fn put_head(alloc: Global, line: &Line, members: &mut Map<String, Value>) -> Result<(), AllocError>
+    requires empty { members_view members.old.entries ≡ no_members }
+    ensures { OnOk result (members_view members.new.entries ≡ line_head (line_of line.now)) }
+{
     put(members, alloc, "counts", counts_value(alloc, &line.counts)?)?;
-    put(members, alloc, "current", Value::from(line.air.current()))?;
+    put(members, alloc, "current", Value::from(line.air().current()))?;
+    put(members, alloc, "end", end_value(alloc, line.has_encoder)?)?;
     put(members, alloc, "failed", Value::Bool(line.failed))?;
     put(members, alloc, "heard", text_value(alloc, &line.heard)?)?;
     put(
@@ -197,16 +246,54 @@ fn put_line(
         Value::try_from_str(alloc, line.name.as_str())?,
     )?;
     put(members, alloc, "link", link_value(alloc, &line.linked)?)?;
+    Ok(())
+}
+
+/// Puts the others behind these.
+fn put_rest(
+    alloc: Global,
+    now: u64,
+    line: &Line,
+    members: &mut Map<String, Value>,
+) -> Result<(), AllocError>
+    requires head { members_view members.old.entries ≡ line_head (line_of line.now) }
+    ensures { OnOk result (object (members_view members.new.entries) ≡ line_data now (line_of line.now)) }
+{
+    let services = services_value(alloc, line.air().rows())?;
+    put(
+        members,
+        alloc,
+        "minutes",
+        minutes_value(alloc, minute_of(now), &line.minutes)?,
+    )?;
     put(
         members,
         alloc,
         "refused",
         refused_value(alloc, &line.refused)?,
     )?;
+    put(
+        members,
+        alloc,
+        "refused_line",
+        refused_line_value(alloc, &line.refused_line)?,
+    )?;
     put(members, alloc, "services", services)?;
     put(members, alloc, "silent", Value::from(silent(now, line)))?;
     put(members, alloc, "since", since_value(alloc, &line.linked)?)?;
     Ok(())
+}
+
+/// How many messages came in each of the minutes up to this one, the oldest first.
+fn minutes_value(alloc: Global, newest: u64, minutes: &Minutes) -> Result<Value, AllocError>
+    ensures { IfOk result (λ value. view value
+        ≡ array (numbers_data (last_hour newest (minutes_of minutes.now)))) }
+{
+    let mut list = Vec::new(alloc);
+    for place in 0..MINUTES as u64 {
+        list.push(Value::from(minutes.before(newest, 59 - place)))?;
+    }
+    Ok(Value::Array(list))
 }
 
 /// Control lines as an array.

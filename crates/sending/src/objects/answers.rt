@@ -3,55 +3,57 @@ ghost use Rattle.std.specs.Prelude.{◌+◌, ◌^◌, ◌<◌, ◌++◌, [], ◌
 ghost use Rattle.std.specs.List.{list_all};
 ghost use Rattle.json_lines.specs.Objects.{in_decimal, line_of};
 ghost use Rattle.json_lines.specs.Texts.{fields_text};
+ghost use Rattle.uecp_json.specs.Findings.{message_fields};
 ghost use Rattle.uecp_json.specs.Steps.{code_fields};
 ghost use Rattle.uecp_text.specs.Written.{Adds};
 ghost use Rattle.json_lines.specs.Stamps.{is_plain};
-ghost use Rattle.sending.specs.Objects.{message_fields, cost_fields, answer_line, answer_lines, held_lines};
+ghost use Rattle.sending.specs.Objects.{number_fields, cost_fields, answer_line, answer_lines, held_lines};
 ghost use Rattle.sending.specs.Objects.{unknown_line, unknown_lines};
 
+use crate::sent::Sent;
 use json_lines::{close_line, number_field, open_line, time_field};
 use uecp_elements::Code;
-use uecp_json::put_code;
+use uecp_json::{put_code, put_message};
 use uecp_text::Output;
 
-/// The lines of messages that were sent under these counters and answered with these codes, the first of which has this
-/// number. `stamp` is when that is told, `tries` how many tries they took, and `milliseconds` how long.
+/// The lines of these messages, each sent under its counter, that were answered with these codes, the first of which
+/// has this number. `stamp` is when that is told, `tries` how many tries they took, and `milliseconds` how long.
 pub(crate) fn put_answers(
     stamp: &str,
     tries: u32,
     milliseconds: u64,
     first: u64,
-    counters: &[u8],
+    sent: &[Sent],
     codes: &[Code],
     output: &mut Output,
 )
     requires plain { IsTrue (list_all is_plain stamp.now) }
     requires countable { first + length codes.now < 2 ^ 64 }
-    ensures { Adds output.old output.new (answer_lines stamp.now tries milliseconds first counters.now codes.now) }
+    ensures { Adds output.old output.new (answer_lines stamp.now tries milliseconds first sent.now codes.now) }
 {
     if let Some((code, told)) = codes.split_first() {
-        if let Some((counter, rest)) = counters.split_first() {
-            put_answer(stamp, tries, milliseconds, first, *counter, *code, output);
+        if let Some((one, rest)) = sent.split_first() {
+            put_answer(stamp, tries, milliseconds, first, one, *code, output);
             put_answers(stamp, tries, milliseconds, first + 1, rest, told, output);
         }
     }
 }
 
-/// The lines of messages that are held, the first of which has this number: of each that is not marked, by the next of
-/// these counters and of these codes.
+/// The lines of messages that are held, the first of which has this number: of each that is not marked, which is the
+/// next of these with its counter, by the next of these codes.
 pub(crate) fn put_held_answers(
     stamp: &str,
     tries: u32,
     milliseconds: u64,
     first: u64,
     marks: &[bool],
-    counters: &[u8],
+    sent: &[Sent],
     codes: &[Code],
     output: &mut Output,
 )
     requires plain { IsTrue (list_all is_plain stamp.now) }
     requires countable { first + length marks.now < 2 ^ 64 }
-    ensures { Adds output.old output.new (held_lines stamp.now tries milliseconds first marks.now counters.now
+    ensures { Adds output.old output.new (held_lines stamp.now tries milliseconds first marks.now sent.now
         codes.now) }
 {
     if let Some((marked, rest)) = marks.split_first() {
@@ -62,13 +64,13 @@ pub(crate) fn put_held_answers(
                 milliseconds,
                 first + 1,
                 rest,
-                counters,
+                sent,
                 codes,
                 output,
             );
-        } else if let Some((counter, others)) = counters.split_first() {
+        } else if let Some((one, others)) = sent.split_first() {
             if let Some((code, told)) = codes.split_first() {
-                put_answer(stamp, tries, milliseconds, first, *counter, *code, output);
+                put_answer(stamp, tries, milliseconds, first, one, *code, output);
                 put_held_answers(
                     stamp,
                     tries,
@@ -85,21 +87,20 @@ pub(crate) fn put_held_answers(
 }
 
 /// The line of a message.
-#[tactic(auto, using(json_lines::proofs::Public::parts))]
 fn put_answer(
     stamp: &str,
     tries: u32,
     milliseconds: u64,
     number: u64,
-    counter: u8,
+    sent: &Sent,
     code: Code,
     output: &mut Output,
 )
     requires { IsTrue (list_all is_plain stamp.now) }
-    ensures { Adds output.old output.new (answer_line stamp.now tries milliseconds number counter code) }
+    ensures { Adds output.old output.new (answer_line stamp.now tries milliseconds number sent.now code) }
 {
     open_line("answer", output);
-    put_fields(stamp, tries, milliseconds, number, counter, code, output);
+    put_fields(stamp, tries, milliseconds, number, sent, code, output);
     close_line(output);
 }
 
@@ -109,23 +110,24 @@ fn put_fields(
     tries: u32,
     milliseconds: u64,
     number: u64,
-    counter: u8,
+    sent: &Sent,
     code: Code,
     output: &mut Output,
 )
     requires { IsTrue (list_all is_plain stamp.now) }
-    ensures { Adds output.old output.new (fields_text (message_fields stamp.now number counter
-        ++ (code_fields code ++ cost_fields tries milliseconds))) }
+    ensures { Adds output.old output.new (fields_text (number_fields stamp.now number sent.now.0
+        ++ (code_fields code ++ (cost_fields tries milliseconds ++ message_fields sent.now.1)))) }
 {
-    put_message(stamp, number, counter, output);
+    put_number(stamp, number, sent.counter(), output);
     put_code(code, output);
     put_cost(tries, milliseconds, output);
+    put_message(sent.bytes(), output);
 }
 
 /// The number, the time and the counter of a message.
-fn put_message(stamp: &str, number: u64, counter: u8, output: &mut Output)
+fn put_number(stamp: &str, number: u64, counter: u8, output: &mut Output)
     requires { IsTrue (list_all is_plain stamp.now) }
-    ensures { Adds output.old output.new (fields_text (message_fields stamp.now number counter)) }
+    ensures { Adds output.old output.new (fields_text (number_fields stamp.now number counter)) }
 {
     number_field("number", number as usize, output);
     time_field(stamp, output);

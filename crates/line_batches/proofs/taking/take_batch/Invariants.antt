@@ -4,7 +4,7 @@ use Rattle.line_batches.proofs.taking.take_batch.Given as goal
 -- the lines that were taken give the messages of the batch, which has room for another and comes to a further line
 abbrev pub invariant-loop-line : goal.invariant-loop-line
 invariant-loop-line g l = let f = g.F.Feed in
-    HasTaken f.remaining f.takes f.says l.reading.input l.reading.size l.reading.strict l._line (record {
+    HasTaken f.remaining f.takes f.says f.passes l.reading.input l.reading.size l.reading.strict l._line (record {
       feed = l.fn.feed;
       lines = l.fn.tally.lines;
       refused = l.fn.tally.refused;

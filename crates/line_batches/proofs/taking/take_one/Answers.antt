@@ -19,8 +19,8 @@ returns-in-Ok-Some g c =
       refused = took.tally.refused;
       said = took.errors;
     } in
-    let taken : TakesGiven f.remaining f.takes f.says c.args.reading.now.input x y (Some c.in-Ok-Some.given) =
-    subst (λ o. TakesGiven f.remaining f.takes f.says c.args.reading.now.input x y o) c.in-Ok-Some.field-0-is
+    let taken : TakesGiven f.remaining f.takes f.says f.passes c.args.reading.now.input x y (Some c.in-Ok-Some.given) =
+    subst (λ o. TakesGiven f.remaining f.takes f.says f.passes c.args.reading.now.input x y o) c.in-Ok-Some.field-0-is
     c.in-Ok-Some.ensures.taken in
     let (line, one) = taken in
     inl (

@@ -9,7 +9,8 @@ pub returns-in-Some-state-clause-sent : goal.returns-in-Some-state-clause-sent
 returns-in-Some-state-clause-sent g c =
     let k = g.S.ServerKeeper.Keep in
     let run = c.run_live_in in
-    let sent : SendsFrom g.F.Feed.remaining g.F.Feed.takes g.F.Feed.says g.C.Connections.opens g.C.Connections.closes
+    let sent : SendsFrom g.F.Feed.remaining g.F.Feed.takes g.F.Feed.says g.F.Feed.passes g.C.Connections.opens
+    g.C.Connections.closes
     g.C.Input.Read.remaining g.C.Output.Write.contents
     (g.S.OpenStates.gives_server c.args.states.now) (g.S.OpenStates.refuses_server c.args.states.now)
     (g.S.OpenStates.closes_server c.args.states.now) k.leaves k.is_clean k.saves k.fails
@@ -26,7 +27,7 @@ returns-in-Some-state-clause-sent g c =
       c.options_of-options.result,
       c.options_of-options.ensures,
       c.in-Some.ensures.some,
-      subst (λ state. SendsFrom g.F.Feed.remaining g.F.Feed.takes g.F.Feed.says g.C.Connections.opens
+      subst (λ state. SendsFrom g.F.Feed.remaining g.F.Feed.takes g.F.Feed.says g.F.Feed.passes g.C.Connections.opens
           g.C.Connections.closes g.C.Input.Read.remaining
           g.C.Output.Write.contents
           (g.S.OpenStates.gives_server c.args.states.now) (g.S.OpenStates.refuses_server c.args.states.now)
@@ -36,7 +37,8 @@ returns-in-Some-state-clause-sent g c =
           run.new.feed c.args.teller.now.held
           run.new.teller.held c.args.errors.now
           run.new.errors run.result) (sym path)
-          (subst (λ address. SendsFrom g.F.Feed.remaining g.F.Feed.takes g.F.Feed.says g.C.Connections.opens
+          (subst (λ address. SendsFrom g.F.Feed.remaining g.F.Feed.takes g.F.Feed.says g.F.Feed.passes
+          g.C.Connections.opens
           g.C.Connections.closes g.C.Input.Read.remaining
           g.C.Output.Write.contents (g.S.OpenStates.gives_server c.args.states.now)
           (g.S.OpenStates.refuses_server c.args.states.now) (g.S.OpenStates.closes_server c.args.states.now) k.leaves
@@ -56,7 +58,7 @@ returns-in-None-clause-sent g c =
       c.options_of-options.result,
       c.options_of-options.ensures,
       c.in-Some.ensures.some,
-      subst (λ state. SendsFrom g.F.Feed.remaining g.F.Feed.takes g.F.Feed.says g.C.Connections.opens
+      subst (λ state. SendsFrom g.F.Feed.remaining g.F.Feed.takes g.F.Feed.says g.F.Feed.passes g.C.Connections.opens
           g.C.Connections.closes g.C.Input.Read.remaining
           g.C.Output.Write.contents
           (g.S.OpenStates.gives_server c.args.states.now) (g.S.OpenStates.refuses_server c.args.states.now)
@@ -66,7 +68,8 @@ returns-in-None-clause-sent g c =
           run.new.feed c.args.teller.now.held
           run.new.teller.held c.args.errors.now
           run.new.errors run.result) (sym none)
-          (subst (λ address. SendsFrom g.F.Feed.remaining g.F.Feed.takes g.F.Feed.says g.C.Connections.opens
+          (subst (λ address. SendsFrom g.F.Feed.remaining g.F.Feed.takes g.F.Feed.says g.F.Feed.passes
+          g.C.Connections.opens
           g.C.Connections.closes g.C.Input.Read.remaining
           g.C.Output.Write.contents (g.S.OpenStates.gives_server c.args.states.now)
           (g.S.OpenStates.refuses_server c.args.states.now) (g.S.OpenStates.closes_server c.args.states.now) k.leaves

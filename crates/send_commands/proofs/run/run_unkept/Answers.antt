@@ -8,7 +8,8 @@ returns-clause-sends g c =
     let run = c.run_live in (
       _,
       run.new.keeper,
-      subst (λ (s : ServerState). Lives g.F.Feed.remaining g.F.Feed.takes g.F.Feed.says g.C.Connections.opens
+      subst (λ (s : ServerState). Lives g.F.Feed.remaining g.F.Feed.takes g.F.Feed.says g.F.Feed.passes
+          g.C.Connections.opens
           g.C.Connections.closes g.C.Input.Read.remaining
           g.C.Output.Write.contents (λ k left. Unit {0}) (λ k. ⊥) (λ k left k'. k' ≡ k) (λ k left k'. ⊥)
           c.args.options.now c.args.connect.now run.new.connect (record {

@@ -12,7 +12,8 @@ loop-again-preserved g c =
     record {
       so = (
         now,
-        one_more (FromFeed g.F.Feed.remaining g.F.Feed.takes g.F.Feed.says) g.C.Connections.opens g.C.Connections.closes
+        one_more (FromFeed g.F.Feed.remaining g.F.Feed.takes g.F.Feed.says g.F.Feed.passes) g.C.Connections.opens
+            g.C.Connections.closes
             g.C.Input.Read.remaining g.C.Output.Write.contents
             k.leaves
             k.is_clean k.saves k.fails c.args.options.now c.loop-again._again c.args.due _ _ _ _ _ _ _ _ so go.0 go.1

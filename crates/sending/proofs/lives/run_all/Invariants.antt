@@ -8,7 +8,7 @@ abbrev pub invariant-loop-again : goal.invariant-loop-again
 invariant-loop-again g l =
     let k = g.K.Keep in
     record {
-      so : (last : ServerState) × RunsFor (FromFeed g.F.Feed.remaining g.F.Feed.takes g.F.Feed.says)
+      so : (last : ServerState) × RunsFor (FromFeed g.F.Feed.remaining g.F.Feed.takes g.F.Feed.says g.F.Feed.passes)
           g.C.Connections.opens g.C.Connections.closes g.C.Input.Read.remaining
           g.C.Output.Write.contents k.leaves k.is_clean k.saves
           k.fails l.options l.due l._again l.fn.connect l.connect

@@ -24,7 +24,8 @@ returns-clause-runs g c =
       (
         start.loan,
         live sent.new.sender sent.new.keeper sent.new.intake sent.new.teller sent.new.course,
-        subst (λ s. RunsLive (FromFeed g.F.Feed.remaining g.F.Feed.takes g.F.Feed.says) g.C.Connections.opens
+        subst (λ s. RunsLive (FromFeed g.F.Feed.remaining g.F.Feed.takes g.F.Feed.says g.F.Feed.passes)
+            g.C.Connections.opens
             g.C.Connections.closes g.C.Input.Read.remaining
             g.C.Output.Write.contents
             k.leaves k.is_clean k.saves

@@ -46,7 +46,8 @@ returns-in-Ok-clause-lives g c =
             held = c.args.teller.now.held;
           }) (record { runs = now.server; keeper = now.keeper; progress = now.progress; held = now.teller.held }) (Ok
           tt)) c.is_due-due.ensures c.in-Ok.ensures.begins,
-      subst (λ due. RunsFor (FromFeed g.F.Feed.remaining g.F.Feed.takes g.F.Feed.says) g.C.Connections.opens
+      subst (λ due. RunsFor (FromFeed g.F.Feed.remaining g.F.Feed.takes g.F.Feed.says g.F.Feed.passes)
+          g.C.Connections.opens
           g.C.Connections.closes g.C.Input.Read.remaining
           g.C.Output.Write.contents
           k.leaves k.is_clean k.saves

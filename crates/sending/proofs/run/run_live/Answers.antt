@@ -20,7 +20,8 @@ returns-clause-runs g c =
       run.result,
       run.new.intake.at,
       run.new.applied,
-      subst (λ (at : FeedIntake g.row.F.Denot). LivesFrom (FromFeed g.F.Feed.remaining g.F.Feed.takes g.F.Feed.says)
+      subst (λ (at : FeedIntake g.row.F.Denot). LivesFrom
+          (FromFeed g.F.Feed.remaining g.F.Feed.takes g.F.Feed.says g.F.Feed.passes)
           g.C.Connections.opens g.C.Connections.closes g.C.Input.Read.remaining
           g.C.Output.Write.contents k.leaves k.is_clean k.saves k.fails c.args.options.now c.args.connect.now
           run.new.connect (record {

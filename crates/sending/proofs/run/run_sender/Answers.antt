@@ -20,10 +20,12 @@ returns-in-GoesOn-clause-runs g c =
     inl (
       at course.behind,
       (c.in_ok-make_if.ensures.makes, refl, c.in_ok-make_if.ensures.unknown, c.in_ok-make_if.ensures.behind),
-      subst (λ (b : After). RunsOn (FromFeed g.F.Feed.remaining g.F.Feed.takes g.F.Feed.says) g.C.Connections.opens
+      subst (λ (b : After). RunsOn (FromFeed g.F.Feed.remaining g.F.Feed.takes g.F.Feed.says g.F.Feed.passes)
+          g.C.Connections.opens
           g.C.Connections.closes g.C.Input.Read.remaining
           g.C.Output.Write.contents k.leaves k.is_clean k.saves k.fails c.args.options.now b (at b) end ran.result) is
-          (subst (λ (b : After). RunsOn (FromFeed g.F.Feed.remaining g.F.Feed.takes g.F.Feed.says) g.C.Connections.opens
+          (subst (λ (b : After). RunsOn (FromFeed g.F.Feed.remaining g.F.Feed.takes g.F.Feed.says g.F.Feed.passes)
+          g.C.Connections.opens
           g.C.Connections.closes g.C.Input.Read.remaining
           g.C.Output.Write.contents k.leaves k.is_clean k.saves k.fails c.args.options.now GoesOn (at b) end ran.result)
           c.replace.ensures.after ran.ensures.runs),
@@ -41,7 +43,8 @@ returns-in-Ends-clause-runs g c =
     inl (
       at course.behind,
       (c.in_ok-make_if.ensures.makes, refl, c.in_ok-make_if.ensures.unknown, c.in_ok-make_if.ensures.behind),
-      subst (λ (b : After). RunsOn (FromFeed g.F.Feed.remaining g.F.Feed.takes g.F.Feed.says) g.C.Connections.opens
+      subst (λ (b : After). RunsOn (FromFeed g.F.Feed.remaining g.F.Feed.takes g.F.Feed.says g.F.Feed.passes)
+          g.C.Connections.opens
           g.C.Connections.closes g.C.Input.Read.remaining
           g.C.Output.Write.contents k.leaves k.is_clean k.saves k.fails c.args.options.now b (at b)
           (at c.replace.new.dest) c.ended_as.result) is (ap at c.replace.ensures.after, c.ended_as.ensures),

@@ -8,7 +8,7 @@ returns-in-Err-clause-runs g c =
     let k = g.K.Keep in
     let o = c.args.options.now in
     let turn = c.in-Err.ensures.stopped in
-    stops (FromFeed g.F.Feed.remaining g.F.Feed.takes g.F.Feed.says o.reading) g.C.Connections.opens
+    stops (FromFeed g.F.Feed.remaining g.F.Feed.takes g.F.Feed.says g.F.Feed.passes o.reading) g.C.Connections.opens
     g.C.Connections.closes g.C.Input.Read.remaining g.C.Output.Write.contents k.leaves
     k.is_clean
     k.saves k.fails o.form _
@@ -19,7 +19,7 @@ pub returns-in-Ok-Ends-clause-runs : goal.returns-in-Ok-Ends-clause-runs
 returns-in-Ok-Ends-clause-runs g c =
     let k = g.K.Keep in
     let o = c.args.options.now in
-    ends (FromFeed g.F.Feed.remaining g.F.Feed.takes g.F.Feed.says o.reading) g.C.Connections.opens
+    ends (FromFeed g.F.Feed.remaining g.F.Feed.takes g.F.Feed.says g.F.Feed.passes o.reading) g.C.Connections.opens
     g.C.Connections.closes g.C.Input.Read.remaining g.C.Output.Write.contents k.leaves
     k.is_clean
     k.saves k.fails o.form _
@@ -39,7 +39,8 @@ loop-turn-preserved g c =
       errors = search rules;
       writer = search rules;
       countable = omega (arith, before, taken);
-      on = one_more (FromFeed g.F.Feed.remaining g.F.Feed.takes g.F.Feed.says o.reading) g.C.Connections.opens
+      on = one_more (FromFeed g.F.Feed.remaining g.F.Feed.takes g.F.Feed.says g.F.Feed.passes o.reading)
+          g.C.Connections.opens
           g.C.Connections.closes g.C.Input.Read.remaining g.C.Output.Write.contents
           k.leaves
           k.is_clean k.saves k.fails o.form _
@@ -52,7 +53,7 @@ returns-clause-runs g c =
     let o = c.args.options.now in
     let most = c.loop-turn.auto._turn-end in
     let least = c.loop-turn-test.false in
-    gives_up (FromFeed g.F.Feed.remaining g.F.Feed.takes g.F.Feed.says o.reading) g.C.Connections.opens
+    gives_up (FromFeed g.F.Feed.remaining g.F.Feed.takes g.F.Feed.says g.F.Feed.passes o.reading) g.C.Connections.opens
     g.C.Connections.closes g.C.Input.Read.remaining g.C.Output.Write.contents k.leaves
     k.is_clean
     k.saves k.fails o.form _

@@ -13,7 +13,8 @@ invariant-loop-turn g l =
       errors : l.intake.errors ≡ l.fn.intake.errors;
       writer : l.teller.writer ≡ l.fn.teller.writer;
       countable : l.course.progress.taken ≤ l.fn.course.progress.taken + 8 * l._turn;
-      on : GoesOnFor (FromFeed g.F.Feed.remaining g.F.Feed.takes g.F.Feed.says l.options.reading) g.C.Connections.opens
+      on : GoesOnFor (FromFeed g.F.Feed.remaining g.F.Feed.takes g.F.Feed.says g.F.Feed.passes l.options.reading)
+          g.C.Connections.opens
           g.C.Connections.closes g.C.Input.Read.remaining g.C.Output.Write.contents
           k.leaves
           k.is_clean k.saves k.fails l.options.form l._turn

@@ -1,4 +1,4 @@
-use Rattle.std.proofs.Common.{rules, arith, ◌≡◌, ◌≢◌, min, [], length, take, drop, sym, ap, subst, ◌∙◌}
+use Rattle.std.proofs.Common.{rules, ◌≡◌, ◌≢◌, min, [], length, take, drop, sym, subst, ◌∙◌}
 use Rattle.std.proofs.lemmas.List.{take_min}
 use Rattle.uecp_jobs.specs.Batches.{Acknowledges, GivesUp}
 use Rattle.uecp_jobs.proofs.Public.{drop_min, none_by_test}

@@ -1,6 +1,6 @@
 use Rattle.std.proofs.Common.{rules, ◌≡◌, ◌+◌, ◌-◌, length, subst, ◌∙◌, inr}
 use Rattle.uecp_link.specs.declared.counts.ServerCounts.{ServerCounts}
-use Rattle.uecp_link.specs.Server.{counters_waiting}
+use Rattle.uecp_link.specs.Server.{waiting}
 use Rattle.sending.specs.Forms.{AreHeld}
 use Rattle.sending.specs.Run.{AnswersTold, marks_in, unknown_of}
 use Rattle.sending.proofs.turn.settle_first.Goals as goal
@@ -14,7 +14,7 @@ returns-clause-settles g c =
     let after = c.tell_held.new.self.held in
     let all : c.marks_of-marks.result.items ≡ marks_in server = search rules in
     let marks : c.as_slice.result.now ≡ marks_in server = c.as_slice.ensures.value ∙ all in
-    let counters : c.as_slice-2.result.now ≡ counters_waiting server = search rules in
+    let sent_is : c.as_slice-2.result.now ≡ waiting server = search rules in
     let counts : c.counts.result ≡ sent.new.sender.sender.server.counts = search rules in
     let first : c.first_of.result ≡ taken + 1 - length (marks_in server) = search rules in
     let unknown : c.unknown_of-course.result ≡ unknown_of (length (marks_in server)) sent.result = search rules in
@@ -24,13 +24,13 @@ returns-clause-settles g c =
         sent.result,
         search rules,
         subst (λ (cs : ServerCounts). AnswersTold (AreHeld c.args.form (taken + 1 - length (marks_in server))
-            (marks_in server) (counters_waiting server)) cs sent.result before after c.tell_held.result) counts
-            (subst (λ n. AnswersTold (AreHeld c.args.form n (marks_in server) (counters_waiting server))
+            (marks_in server) (waiting server)) cs sent.result before after c.tell_held.result) counts
+            (subst (λ n. AnswersTold (AreHeld c.args.form n (marks_in server) (waiting server))
             c.counts.result sent.result before after c.tell_held.result) first
-            (subst (λ l. AnswersTold (AreHeld c.args.form c.first_of.result l (counters_waiting server))
+            (subst (λ l. AnswersTold (AreHeld c.args.form c.first_of.result l (waiting server))
             c.counts.result sent.result before after c.tell_held.result) marks
             (subst (λ l. AnswersTold (AreHeld c.args.form c.first_of.result c.as_slice.result.now l)
-            c.counts.result sent.result before after c.tell_held.result) counters c.tell_held.ensures.tells))),
+            c.counts.result sent.result before after c.tell_held.result) sent_is c.tell_held.ensures.tells))),
         search rules,
         unknown,
       ),

@@ -69,3 +69,9 @@ pub returns-in-Conformance-clause-comes : goal.returns-in-Conformance-clause-com
 returns-in-Conformance-clause-comes g c =
     let run = c.run_conformance_over_tcp in
     rw c.in-Conformance.is (run.ensures.done, λ two. ap g.W.Write.contents (run.ensures.unknown two))
+
+pub returns-in-Quote-clause-comes : goal.returns-in-Quote-clause-comes
+returns-in-Quote-clause-comes g c = rw c.in-Quote.is c.run_quote.ensures
+
+pub returns-in-Phrases-clause-comes : goal.returns-in-Phrases-clause-comes
+returns-in-Phrases-clause-comes g c = rw c.in-Phrases.is (c.tell_phrases.ensures, refl)

@@ -7,7 +7,7 @@ pub returns-clause-takes : goal.returns-clause-takes
 returns-clause-takes g c =
     let f = g.F.Feed in
     let new = c.take_batch.new in
-    subst (λ (i : Taking g.row.F.Denot). FromFeed f.remaining f.takes f.says c.args.reading.now new.batch.items
+    subst (λ (i : Taking g.row.F.Denot). FromFeed f.remaining f.takes f.says f.passes c.args.reading.now new.batch.items
     c.take_batch.result i.at (record {
       feed = new.feed;
       lines = new.tally.lines;

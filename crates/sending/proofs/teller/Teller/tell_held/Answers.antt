@@ -8,7 +8,7 @@ pub returns-in-Ok-clause-tells : goal.returns-in-Ok-clause-tells
 returns-in-Ok-clause-tells g c =
     let (told, are, adds) = c.put_held_in.ensures in
     let after = g.W.Write.contents c.write_told.new.writer in
-    subst (λ e. AnswersTold (AreHeld c.args.form c.args.first c.args.marks.now c.args.counters.now)
+    subst (λ e. AnswersTold (AreHeld c.args.form c.args.first c.args.marks.now c.args.sent.now)
     c.args.counts e c.args.self.now.held after c.write_told.result) (sym c.in-Ok.is) (
       told,
       are,

@@ -1,0 +1,3 @@
+-- The lemmas of quoting.
+mod Alone
+mod Ends

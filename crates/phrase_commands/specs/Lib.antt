@@ -1,0 +1,2 @@
+-- The definitions that the contracts of quoting cite.
+pub mod Quoting

@@ -1,0 +1,15 @@
+//! The commands `quote` and `phrases`: any line of text as a string of a phrase, for scripts that build phrases; and
+//! the page that tells the phrases.
+//!
+//! - [`run_quote`]: writes the lines of an input as strings, up to the first that no string can be.
+//! - [`string_of`]: the string that says a text.
+//! - [`tell_phrases`]: writes the page, [`PHRASES`], which `help phrases` shows too.
+#![tactic(auto)]
+
+mod page;
+mod quoting;
+mod run;
+
+pub use page::PHRASES;
+pub use quoting::string_of;
+pub use run::{run_quote, tell_phrases};
