@@ -17,7 +17,7 @@ use Rattle.clap.proofs.OnLiterals.{clap_on_literals}
 use Rattle.commands.specs.declared.job.Job.{Job}
 use Rattle.commands.specs.declared.job.Job.TheVariants.{AnswerWith, ShowWith, MakeWith, LineWith, EncoderWith}
 use Rattle.commands.specs.declared.job.Job.TheVariants.{ServerWith, Send, Watch, State, Receive, Conformance, Page}
-use Rattle.commands.specs.declared.job.Job.TheVariants.{Quote, Phrases}
+use Rattle.commands.specs.declared.job.Job.TheVariants.{MakeFitted, Quote, Phrases}
 use Rattle.commands.specs.Jobs.{in_full, in_short}
 use Rattle.command_line.specs.declared.command_name.CommandName.{CommandName}
 use Rattle.command_line.specs.declared.command_name.CommandName.TheVariants as command
@@ -26,7 +26,8 @@ use Rattle.command_line.specs.declared.usage.Usage.TheVariants.{Refused, NotALis
 use Rattle.command_line.specs.Ranges.{IsFullInRange, IsInRange, IsPlaceInRange, IsSetupInRange, Lies}
 use Rattle.command_line.specs.Usages.{SaysError}
 use Rattle.command_line.specs.CommandLine.{AreOptions, Asks, IsFullOf, IsMaybe, IsOption, IsPlace}
-use Rattle.command_line.specs.CommandLine.{RefusesLine, RefusesList, RefusesJobOf, RefusesWords, command_word}
+use Rattle.command_line.specs.CommandLine.{RefusesLine, RefusesList, RefusesJobOf, RefusesScript, RefusesWords}
+use Rattle.command_line.specs.CommandLine.{command_word}
 use Rattle.command_line.specs.CommandLine.{services_text, uecp_app}
 use Rattle.command_line.specs.TitleLines.{RefusesLines}
 use Rattle.command_line.proofs.Helps.{one_named}
@@ -130,14 +131,30 @@ refuses_lines : (words : List Text) (m : ArgMatches) (rows : List Row) (why : Us
 refuses_lines words m rows why e f met (inl out) = subst (RefusesWords words) (sym out) tt
 refuses_lines words m rows (Refused error) e f met (inr (kind, no_lines)) = inr (
   kind,
-  inr (record {
+  inr (inl (record {
     rows = rows;
     command = sym met ∙ both_met (out-ArgMatches m).subcommand (codes "send") rows e f;
     no_lines = no_lines;
-  }),
+  })),
 )
 refuses_lines words m rows NotAList e f met (inr (never, no_lines)) = absurd never
 refuses_lines words m rows OutOfMemory e f met (inr (memory, no_lines)) = tt
+
+-- what the matches of `make` ask for was refused
+refuses_script : (words : List Text) (m : ArgMatches) (rows : List Row) (why : Usage)
+    → Some (codes "make") ≡ subcommand_name_of m → Some rows ≡ option_map (λ p. p.1) (subcommand_rows_of m)
+    → subcommand_rows_of m ≡ subcommand_of uecp_app words → RefusesScript rows why → RefusesWords words why
+refuses_script words m rows why e f met (inl out) = subst (RefusesWords words) (sym out) tt
+refuses_script words m rows (Refused error) e f met (inr (kind, no_words)) = inr (
+  kind,
+  inr (inr (record {
+    rows = rows;
+    command = sym met ∙ both_met (out-ArgMatches m).subcommand (codes "make") rows e f;
+    no_words = no_words;
+  })),
+)
+refuses_script words m rows NotAList e f met (inr (never, no_words)) = absurd never
+refuses_script words m rows OutOfMemory e f met (inr (memory, no_words)) = tt
 
 -- what the matches of a command ask for was refused
 no_memory : (words : List Text) (why : Usage) → why ≡ OutOfMemory → RefusesWords words why
@@ -153,7 +170,7 @@ refuses_job words m command.Encoder rows why e f met refused =
 refuses_job words m command.Line rows why e f met refused =
     refuses_line words m (codes "line") rows why e f met refl refused
 refuses_job words m command.Show rows why e f met refused = no_memory words why refused
-refuses_job words m command.Make rows why e f met refused = no_memory words why refused
+refuses_job words m command.Make rows why e f met refused = refuses_script words m rows why e f met refused
 refuses_job words m command.Server rows why e f met refused = no_memory words why refused
 refuses_job words m command.Send rows why e f met refused = refuses_lines words m rows why e f met refused
 refuses_job words m command.Watch rows why e f met refused = no_memory words why refused
@@ -242,6 +259,7 @@ full_in_range name rows (Conformance o) is = let has = is.1 in (
 )
 full_in_range name rows (ShowWith o) is = tt
 full_in_range name rows (MakeWith o) is = tt
+full_in_range name rows (MakeFitted region) is = tt
 full_in_range name rows (Watch o) is = tt
 full_in_range name rows (State file) is = tt
 full_in_range name rows (Receive o) is = tt

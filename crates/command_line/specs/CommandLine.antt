@@ -19,7 +19,7 @@ use Rattle.commands.specs.Host.{NamesHost}
 use Rattle.commands.specs.declared.job.Job.{Job}
 use Rattle.commands.specs.declared.job.Job.TheVariants.{AnswerWith, ShowWith, MakeWith, LineWith, EncoderWith}
 use Rattle.commands.specs.declared.job.Job.TheVariants.{ServerWith, Send, Watch, State, Receive, Conformance, Page}
-use Rattle.commands.specs.declared.job.Job.TheVariants.{Quote, Phrases}
+use Rattle.commands.specs.declared.job.Job.TheVariants.{MakeFitted, Quote, Phrases}
 use Rattle.commands.specs.Jobs.{in_short}
 use Rattle.commands.specs.declared.answer_options.AnswerOptions.{AnswerOptions}
 use Rattle.commands.specs.declared.conformance_options.ConformanceOptions.{ConformanceOptions}
@@ -38,7 +38,8 @@ use Rattle.output_forms.specs.declared.form.Form.TheVariants.{Lines, Words, Json
 use Rattle.rds_text.specs.declared.programme_type.Region.{Region}
 use Rattle.rds_text.specs.declared.programme_type.Region.TheVariants.{Europe, NorthAmerica}
 pub use Rattle.command_line.specs.OptionTexts.{IsFlag, word_text}
-use Rattle.command_line.specs.TitleLines.{HasNoTitles, IsPassOver, IsTitles, PassesOverNone, RefusesLines}
+use Rattle.command_line.specs.TitleLines.{HasNoTitles, IsPassOver, IsRefusal, IsTitles, PassesOverNone}
+use Rattle.command_line.specs.TitleLines.{RefusesLines}
 use Rattle.command_line.specs.declared.numbers.NumberOption.{NumberOption}
 use Rattle.command_line.specs.declared.command_name.CommandName.{CommandName}
 use Rattle.command_line.specs.declared.command_name.CommandName.TheVariants as command
@@ -183,6 +184,7 @@ pub record IsLive (rows : List Row) (job : SendOptions) : Type 0 where
   pub is_silent : IsOption (one_of (codes "silent") rows) 1 86400 job.silent
   pub is_region : IsRegion rows job.region
   pub is_titles : IsTitles rows job.titles
+  pub is_fit : IsFlag (one_of (codes "fit") rows) job.fit
   pub is_form : IsToldIn rows job.form
   pub is_strict : IsFlag (one_of (codes "strict") rows) job.strict
   pub is_pass_over : IsPassOver rows (option_map string_bytes job.pass_over)
@@ -218,6 +220,14 @@ pub record IsEncoder (rows : List Row) (job : EncoderOptions) : Type 0 where
 abbrev pub ladder_word : LadderForm → List ℕ
 ladder_word Picture = codes "svg"
 ladder_word Text = codes "text"
+
+-- A script is to be made to fit that is not one of phrases.
+abbrev pub FitsNoWords : (rows : List Row) → Type 0
+FitsNoWords rows = IsFlag (one_of (codes "fit") rows) true × IsWording rows Lines
+
+-- Why what the matches of the command `make` ask for was refused: that. Or there was no memory.
+abbrev pub RefusesScript : (rows : List Row) → Usage → Type 0
+RefusesScript rows why = (why ≡ OutOfMemory) ⊎ (IsRefusal why × FitsNoWords rows)
 
 -- A line is played, or drawn as a ladder, as the matches of the command `line` ask for it.
 pub record IsLine (rows : List Row) (o : LineOptions) : Type 0 where
@@ -269,7 +279,10 @@ pub record IsConformance (rows : List Row) (job : ConformanceOptions) : Type 0 w
 abbrev pub IsFullOf : (name : List ℕ) → List Row → Job → Type 0
 IsFullOf name rows (AnswerWith o) = (name ≡ codes "answer") × IsAnswer rows o
 IsFullOf name rows (ShowWith o) = (name ≡ codes "show") × IsForm rows o.form
-IsFullOf name rows (MakeWith o) = (name ≡ codes "make") × IsWording rows (words_of o.words)
+IsFullOf name rows (MakeWith o) =
+    (name ≡ codes "make") × IsWording rows (words_of o.words) × IsFlag (one_of (codes "fit") rows) false
+IsFullOf name rows (MakeFitted region) =
+    (name ≡ codes "make") × IsWording rows (Words region) × IsFlag (one_of (codes "fit") rows) true
 IsFullOf name rows (LineWith o) = (name ≡ codes "line") × IsLine rows o
 IsFullOf name rows (EncoderWith o) = (name ≡ codes "encoder") × IsEncoder rows o
 IsFullOf name rows (ServerWith o) = (name ≡ codes "server") × IsServer rows o
@@ -301,11 +314,13 @@ command_word command.Quote = codes "quote"
 command_word command.Phrases = codes "phrases"
 
 -- Why what the matches of this command ask for was refused: it has a list of services that is none, a ladder's form
--- that is none, or lines that are neither phrases nor titles. Or there was no memory.
+-- that is none, lines that are neither phrases nor titles, or a script to be made to fit that is not of phrases. Or
+-- there was no memory.
 abbrev pub RefusesJobOf : CommandName → (rows : List Row) → Usage → Type 0
 RefusesJobOf command.Answer rows why = RefusesList (services_text rows) why
 RefusesJobOf command.Encoder rows why = RefusesList (services_text rows) why
 RefusesJobOf command.Line rows why = RefusesLine rows why
+RefusesJobOf command.Make rows why = RefusesScript rows why
 RefusesJobOf command.Send rows why = RefusesLines rows why
 RefusesJobOf other rows why = why ≡ OutOfMemory
 
@@ -461,7 +476,7 @@ watching_command = command_with (codes "watch") (form_flags ++ name_option ∷ f
 
 -- The command `make`.
 abbrev pub making_command : Shape
-making_command = command_with (codes "make") word_flags
+making_command = command_with (codes "make") (word_flags ++ flag (codes "fit") ∷ [])
 
 -- The options of how an encoder listens, serves and tells.
 abbrev pub serving_options : List Rule
@@ -567,12 +582,18 @@ pub record GivesNoTitles (words : List (List ℕ)) : Type 0 where
   pub command : subcommand_of uecp_app words ≡ Some (codes "send", rows)
   pub no_lines : HasNoTitles rows ⊎ PassesOverNone rows
 
--- The words give a word that is none of those that its option has: a ladder's form, or what lines are.
-abbrev pub GivesNoChoice : (words : List (List ℕ)) → Type 0
-GivesNoChoice words = GivesNoForm words ⊎ GivesNoTitles words
+-- The words ask for a script to be made to fit that is not one of phrases.
+pub record GivesNoScript (words : List (List ℕ)) : Type 0 where
+  pub rows : List Row
+  pub command : subcommand_of uecp_app words ≡ Some (codes "make", rows)
+  pub no_words : FitsNoWords rows
 
--- Why the words were refused: they have a fault of this kind, or give no list, no form, or no titles. Or there was no
--- memory.
+-- The words give a word that is none of those that its option has, a ladder's form, or what lines are; or an option
+-- that another one has to stand beside.
+abbrev pub GivesNoChoice : (words : List (List ℕ)) → Type 0
+GivesNoChoice words = GivesNoForm words ⊎ (GivesNoTitles words ⊎ GivesNoScript words)
+
+-- Why the words were refused: they have a fault of this kind, or give no list, or no choice. Or there was no memory.
 abbrev pub RefusesWords : (words : List (List ℕ)) → Usage → Type 0
 RefusesWords words (Refused error) = IsAmong (kind_of error) (fault_of uecp_app words)
     ⊎ ((kind_of error ≡ InvalidValue) × GivesNoChoice words)

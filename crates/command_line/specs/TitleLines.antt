@@ -30,10 +30,10 @@ IsService (Some text) number = decode_sized text 1 ≡ Ok (number ∷ [])
 abbrev pub IsTitles : (rows : List Row) → Option TitleOptions → Type 0
 IsTitles rows None =
     (input_text rows ≡ codes "phrases") × (first_of (codes "prefix") rows ≡ None)
-    × (first_of (codes "service") rows ≡ None) × IsFlag (one_of (codes "fit") rows) false
+    × (first_of (codes "service") rows ≡ None)
 IsTitles rows (Some options) =
     (input_text rows ≡ codes "titles") × IsPrefix (first_of (codes "prefix") rows) options.prefix.items
-    × IsService (first_of (codes "service") rows) options.service × IsFlag (one_of (codes "fit") rows) options.fit
+    × IsService (first_of (codes "service") rows) options.service
 
 -- The lines are neither; what is a title's is asked for of phrases; or the prefix of titles is none, or the service no
 -- number.
@@ -41,8 +41,7 @@ abbrev pub HasNoTitles : (rows : List Row) → Type 0
 HasNoTitles rows =
     ((input_text rows ≢ codes "phrases") × (input_text rows ≢ codes "titles"))
     ⊎ (((input_text rows ≡ codes "phrases")
-    × ((is_some (first_of (codes "prefix") rows) ≡ true) ⊎ ((is_some (first_of (codes "service") rows) ≡ true)
-    ⊎ IsFlag (one_of (codes "fit") rows) true)))
+    × ((is_some (first_of (codes "prefix") rows) ≡ true) ⊎ (is_some (first_of (codes "service") rows) ≡ true)))
     ⊎ ((input_text rows ≡ codes "titles")
     × (((bytes : List ℕ) → IsPrefix (first_of (codes "prefix") rows) bytes → ⊥)
     ⊎ ((number : ℕ) → IsService (first_of (codes "service") rows) number → ⊥))))

@@ -112,7 +112,14 @@ pub(crate) const MAKE_COMMAND: CommandRow = CommandRow {
     name: "make",
     about: "Write the frames of a frame script in hexadecimal, one a line",
     after: "Lines: frame AAAA CC, then its elements: pi, ps, tatp, ms, pty, rt, select, group, ack, raw\nWith --words a line is a message: phrases between semicolons; frame AAAA CC names its address and counter\nThe phrases: uecp help phrases\nExample: printf 'frame 0041 01\\npi 00 00 C201\\n' | uecp make",
-    options: &[WORDS, RBDS],
+    options: &[
+        WORDS,
+        RBDS,
+        OptionRow::Flag(
+            "fit",
+            "With --words, make the strings of a line fit that is refused as it stands: take the nearest characters, cut them",
+        ),
+    ],
 };
 
 /// The command `line`.
@@ -273,7 +280,7 @@ pub(crate) const SEND_COMMAND: CommandRow = CommandRow {
         ),
         OptionRow::Flag(
             "fit",
-            "With titles, make one that is no RadioText as it stands fit: take the nearest characters, cut it behind a word",
+            "Make a line fit that is refused as it stands, a title, or the strings of phrases: take the nearest characters, cut it",
         ),
     ],
 };

@@ -7,8 +7,9 @@ ghost use Rattle.clap.specs.declared.error.Error.{Error};
 ghost use Rattle.clap.specs.declared.error.kind.ErrorKind.TheVariants.{InvalidValue};
 ghost use Rattle.commands.specs.Host.{NamesHost};
 ghost use Rattle.command_line.specs.CommandLine.{IsOption, IsList, IsFullOf, RefusesList, services_text, host_text};
-ghost use Rattle.command_line.specs.CommandLine.{HasNoForm, IsMaybe, IsServer, IsTimed, RefusesLine, ladder_word};
-ghost use Rattle.command_line.specs.CommandLine.{word_text};
+ghost use Rattle.command_line.specs.CommandLine.{HasNoForm, IsMaybe, IsServer, IsTimed, RefusesLine, RefusesScript};
+ghost use Rattle.command_line.specs.CommandLine.{ladder_word, word_text};
+ghost use Rattle.commands.specs.declared.job.Job.TheVariants.{MakeWith};
 ghost use Rattle.command_line.specs.declared.usage.Usage.TheVariants.{OutOfMemory, Refused};
 
 use crate::definition::program;
@@ -19,6 +20,7 @@ use crate::numbers::{
 };
 use crate::send_options::word_of;
 use crate::services::services_of;
+use crate::title_options::refusal;
 use crate::usage::Usage;
 use clap::ArgMatches;
 use clap::error::ErrorKind;
@@ -26,6 +28,7 @@ use commands::{
     AnswerOptions, Job, LadderForm, LineOptions, MakeOptions, ServerOptions, ShowOptions,
     WatchOptions, host_named,
 };
+use rds_text::Region;
 use std::alloc::{AllocError, Global};
 use uecp_jobs::Form;
 
@@ -183,13 +186,25 @@ pub(crate) fn is_timed(found: &ArgMatches<'_>) -> bool
 }
 
 /// What the command `make` asks for.
-pub fn make_of(found: &ArgMatches<'_>) -> Job
-    ensures { IsFullOf (codes "make") (rows_of (found_of found.now)) result }
+///
+/// Errors: `Refused` where a script is to be made to fit that is not of phrases; `OutOfMemory`.
+pub fn make_of(alloc: Global, found: &ArgMatches<'_>) -> Result<Job, Usage>
+    ensures job { IfOk result (IsFullOf (codes "make") (rows_of (found_of found.now))) }
+    ensures refused { IfErr result (RefusesScript (rows_of (found_of found.now))) }
 {
-    let words = match wording_of(found) {
-        Form::Words(region) => Some(region),
-        _ => None,
-    };
+    let fit = flag_of(found, "fit");
+    match wording_of(found) {
+        Form::Words(region) if fit => Ok(Job::MakeFitted(region)),
+        Form::Words(region) => Ok(made_of(Some(region))),
+        _ if fit => Err(refusal(alloc, "fit: with --words alone")),
+        _ => Ok(made_of(None)),
+    }
+}
+
+/// The job of a script that is not made to fit.
+fn made_of(words: Option<Region>) -> Job
+    ensures { result ≡ MakeWith (record { words = words }) }
+{
     Job::MakeWith(MakeOptions { words })
 }
 

@@ -48,7 +48,7 @@ fn full_of(alloc: Global, command: CommandName, found: &ArgMatches<'_>) -> Resul
     match command {
         CommandName::Answer => answer_of(alloc, found),
         CommandName::Show => Ok(show_of(found)),
-        CommandName::Make => Ok(make_of(found)),
+        CommandName::Make => make_of(alloc, found),
         CommandName::Line => line_of(alloc, found),
         CommandName::Encoder => encoder_of(alloc, found),
         CommandName::Server => server_of(alloc, found),

@@ -62,6 +62,7 @@ fn with_words(
         window: small_of(found, &WINDOW),
         region: region_of(found),
         titles,
+        fit: flag_of(found, "fit"),
         form: told_in(found),
         strict: flag_of(found, "strict"),
         pass_over,

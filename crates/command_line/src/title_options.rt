@@ -5,7 +5,6 @@ ghost use Rattle.command_line.specs.TitleLines.{HasNoTitles, IsPrefix, IsService
 ghost use Rattle.command_line.specs.TitleLines.{IsRefusal, RefusesTitles, input_text};
 
 use crate::definition::program;
-use crate::forms::flag_of;
 use crate::usage::Usage;
 use clap::ArgMatches;
 use clap::error::ErrorKind;
@@ -53,8 +52,8 @@ fn no_titles(alloc: Global, found: &ArgMatches<'_>) -> Result<Option<TitleOption
 {
     let prefix = has_word(found, "prefix");
     let service = has_word(found, "service");
-    if prefix || service || flag_of(found, "fit") {
-        return Err(refusal(alloc, "input: --prefix, --service and --fit are for titles"));
+    if prefix || service {
+        return Err(refusal(alloc, "input: --prefix and --service are for titles"));
     }
     Ok(None)
 }
@@ -74,11 +73,7 @@ fn options_of(
     let Some(service) = service_of(found) else {
         return Ok(Err("service: two hexadecimal digits"));
     };
-    Ok(Ok(TitleOptions {
-        prefix,
-        service,
-        fit: flag_of(found, "fit"),
-    }))
+    Ok(Ok(TitleOptions { prefix, service }))
 }
 
 /// The bytes that stand before each title, where they are asked for as such.

@@ -9,6 +9,7 @@ use crate::receive_options::ReceiveOptions;
 use crate::script_options::{MakeOptions, ShowOptions, WatchOptions};
 use crate::send_options::SendOptions;
 use crate::server_options::ServerOptions;
+use rds_text::Region;
 use std::fmt;
 
 /// One command with its options. `command_line`'s `parse` answers no other numbers than the ranges named here.
@@ -40,6 +41,9 @@ pub enum Job {
     Make,
     /// The same with all options: of a script of phrases.
     MakeWith(MakeOptions),
+    /// The frames of a script of phrases, with the programme types of this region, of which a line that says nothing as
+    /// it stands is made to fit.
+    MakeFitted(Region),
     /// What comes of the events on standard input; the options are those of `Answer`.
     Line {
         /// The site of both ends, 1 to 1023.
@@ -134,6 +138,7 @@ fn name_of(job: &Job) -> &'static str {
         Job::ShowWith(_) => "ShowWith",
         Job::Make => "Make",
         Job::MakeWith(_) => "MakeWith",
+        Job::MakeFitted(_) => "MakeFitted",
         Job::Line { .. } => "Line",
         Job::LineWith(_) => "LineWith",
         Job::Encoder { .. } => "Encoder",

@@ -26,6 +26,8 @@ pub struct SendOptions {
     pub region: Region,
     /// How its lines are titles; None where they are phrases.
     pub titles: Option<TitleOptions>,
+    /// Whether a line is made to fit that is no title, or says nothing, as it stands.
+    pub fit: bool,
     /// In which form it is told what comes of the messages.
     pub form: Form,
     /// Whether the run ends at a line that is refused.
@@ -57,6 +59,4 @@ pub struct TitleOptions {
     pub prefix: Vec<u8>,
     /// The programme service whose RadioText it is, 0 for the main one.
     pub service: u8,
-    /// Whether a title that is no RadioText as it stands is made to fit.
-    pub fit: bool,
 }

@@ -32,6 +32,18 @@ pub enum BindFault {
     Failed,
 }
 
+impl BindFault {
+    /// What is said of it on standard error, behind `uecp: `; None where the system told nothing that helps.
+    pub fn text(&self) -> Option<&'static str> {
+        match self {
+            BindFault::InUse => Some("somebody listens there already"),
+            BindFault::NoSuchAddress => Some("the machine has no such address"),
+            BindFault::NotAllowed => Some("not allowed"),
+            BindFault::Failed => None,
+        }
+    }
+}
+
 /// Listens at an address and a port, and accepts one connection after another. That there is no descriptor or no memory
 /// for one more is said once until there is.
 #[derive(Drop)]

@@ -20,6 +20,18 @@ pub enum AddressFault {
     PortZero,
 }
 
+impl AddressFault {
+    /// What is said of it on standard error, behind `uecp: `.
+    pub fn text(&self) -> &'static str {
+        match self {
+            AddressFault::NoAddress => "listen: no IP address, alone or with a port up to 65535",
+            AddressFault::NoPort => "listen: no port is given",
+            AddressFault::TwoPorts => "listen: two ports are given",
+            AddressFault::PortZero => "listen: port 0 is none",
+        }
+    }
+}
+
 /// The address and port that a text asks for: an IP address with the port beside it, as `192.0.2.7` or `::1`; or both
 /// in the text, where no port is given beside it, as `192.0.2.7:4000` or `[::1]:4000`.
 ///

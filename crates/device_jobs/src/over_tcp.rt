@@ -201,13 +201,7 @@ pub fn limit_of(seconds: u32) -> Option<u32>
 pub fn fail_address<E: Write>(fault: AddressFault, errors: &mut NoticesTo<E>) -> u8
     ensures { (2 ≤ result) × (result ≤ 3) }
 {
-    let text = match fault {
-        AddressFault::NoAddress => "listen: no IP address, alone or with a port up to 65535",
-        AddressFault::NoPort => "listen: no port is given",
-        AddressFault::TwoPorts => "listen: two ports are given",
-        AddressFault::PortZero => "listen: port 0 is none",
-    };
-    let _ = fail_state(text, errors);
+    let _ = fail_state(fault.text(), errors);
     2
 }
 
@@ -239,13 +233,9 @@ pub fn fail_bind<E: Write>(fault: BindFault, errors: &mut NoticesTo<E>) -> u8
     ensures { (2 ≤ result) × (result ≤ 3) }
 {
     let status = fail(&RunFault::Listening, errors);
-    let text = match fault {
-        BindFault::InUse => "somebody listens there already",
-        BindFault::NoSuchAddress => "the machine has no such address",
-        BindFault::NotAllowed => "not allowed",
-        BindFault::Failed => return status,
-    };
-    let _ = fail_state(text, errors);
+    if let Some(text) = fault.text() {
+        let _ = fail_state(text, errors);
+    }
     status
 }
 

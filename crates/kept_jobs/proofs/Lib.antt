@@ -1,9 +1,5 @@
 pub mod Outliving
-pub mod Lines
-pub mod Sending
 pub mod Starting
 pub mod Calls
 pub mod Begun
-pub mod Surviving
-pub mod Ending
 pub mod Public

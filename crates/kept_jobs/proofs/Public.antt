@@ -2,5 +2,5 @@
 pub use Rattle.kept_jobs.proofs.Outliving.{goes, goes_not_stopped, same_status, same_stop, stopped}
 pub use Rattle.kept_jobs.proofs.Outliving.{told_status, told_stops}
 pub use Rattle.kept_jobs.proofs.Starting.{starts_so}
-pub use Rattle.kept_jobs.proofs.Calls.{After, Chain, after_none, after_on, chain_none}
+pub use Rattle.kept_jobs.proofs.Calls.{After, Chain, after_none, after_on, after_stop, chain_none}
 pub use Rattle.kept_jobs.proofs.Begun.{HasBegun, LeftBegun}

@@ -1,9 +1,11 @@
 //! Why a run stops whose state is kept, and what is said of that. Source: profile.
 ghost use Rattle.std.specs.Prelude.{◌≡◌, Err};
-ghost use Rattle.kept_jobs.specs.Stops.{stop_status, stop_lines, state_line};
+ghost use Rattle.kept_jobs.specs.Stops.{stop_status, stop_lines, state_line, heard_nothing, stop_for};
 ghost use Rattle.kept_jobs.specs.declared.stop.KeptStop.TheVariants.{Run};
 
 use notices::{Notices, fail};
+use uecp_link::ServerCounts;
+use uecp_net::Outstanding;
 use uecp_text::RunFault;
 
 /// Why a run stopped whose state is kept.
@@ -51,4 +53,22 @@ pub fn fail_state<E: Notices>(text: &str, errors: &mut E) -> u8
 {
     errors.say(&[b"uecp: ", text.as_bytes(), b"\n"]);
     3
+}
+
+/// Why a run stops whose messages are outstanding for this reason, where the server counted so much.
+pub fn stop_for(reason: Outstanding, counts: ServerCounts) -> KeptStop
+    ensures { result ≡ stop_for counts reason }
+{
+    match reason {
+        Outstanding::TriesSpent if heard_nothing(counts) => KeptStop::Unanswered,
+        Outstanding::TriesSpent => KeptStop::Run(RunFault::Outstanding),
+        Outstanding::ConnectionFailed => KeptStop::Run(RunFault::Connection),
+    }
+}
+
+/// Whether nothing was heard that is counted: no reply, no other frame and no noise.
+fn heard_nothing(counts: ServerCounts) -> bool
+    ensures { result ≡ heard_nothing counts }
+{
+    counts.acknowledged == 0 && counts.stray == 0 && counts.dropped == 0
 }

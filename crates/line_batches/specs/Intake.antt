@@ -1,6 +1,6 @@
 -- How lines are taken from an input as they come (profile).
 use Rattle.std.specs.Prelude.{◌≡◌, ◌⊎◌, ℕ, ◌+◌, ◌-◌, ◌^◌, min, Bool, true, false, ◌||◌, ◌<◌, List, [], ◌∷◌, ◌++◌}
-use Rattle.std.specs.Prelude.{length, Option, Some, None, codes, decimal}
+use Rattle.std.specs.Prelude.{length, Option, Some, None, option_map, codes, decimal}
 use Rattle.std.specs.String.{string_bytes}
 use Rattle.std.specs.Io.KnownBytes.{Keeps, IsAtEnd}
 use Rattle.rds_text.specs.declared.programme_type.Region.{Region}
@@ -14,12 +14,13 @@ use Rattle.uecp_text.specs.Run.{fault_at}
 use Rattle.line_feed.specs.declared.feed_fault.FeedFault.TheVariants as feed
 use Rattle.line_feed.specs.Lines.{IsFirstLine, IsHeld, IsUntaken}
 use Rattle.line_batches.specs.declared.intake.Input.{Input}
-use Rattle.line_batches.specs.declared.intake.Input.TheVariants.{Phrases, Titles as TitlesOf}
+use Rattle.line_batches.specs.declared.intake.Input.TheVariants.{Phrases, Fitted, Titles as TitlesOf}
 use Rattle.line_batches.specs.declared.intake.Given.{Given}
 use Rattle.line_batches.specs.declared.intake.Given.TheVariants.{Nothing, Gives, Refused}
 use Rattle.titles.specs.declared.title.Titles.{Titles}
 use Rattle.titles.specs.declared.title.Title.TheVariants as title
 use Rattle.titles.specs.Titles.{GivesTitle, IsRefused}
+use Rattle.titles.specs.Lines.{SaysNeither, SaysRefitted}
 use Rattle.phrase_scripts.specs.Lines.{Begins as Heads, Says, SaysLine, SaysNothing, IsUnsaid}
 use Rattle.notices.specs.Told.{Told, Says as IsSaid}
 
@@ -43,6 +44,25 @@ ReadsPhrases region line given =
     ((said line ≡ None) × (given ≡ Nothing))
     ⊎ ((text : List ℕ) × (said line ≡ Some text) × ReadsText region text given)
 
+-- ---- A line of phrases that is made to fit.
+
+-- What a text gives: its message as it stands; or where it says nothing so, that of the text with its strings made to
+-- fit, and that text. Or it is refused: it says nothing either way; or it is the heading of a frame.
+abbrev pub ReadsRefitted : Region → (text : List ℕ) → Given → Type 0
+ReadsRefitted region text Nothing = ⊥
+ReadsRefitted region text (Gives message fitted) =
+    SaysRefitted region text (Says message) (option_map string_bytes fitted)
+ReadsRefitted region text (Refused fault) =
+    (IsUnsaid fault × SaysNeither region text)
+    ⊎ ((fault ≡ NotACommand) × ((address : ℕ) × (counter : ℕ) × (fitted : Option (List ℕ))
+    × SaysRefitted region text (Heads address counter) fitted))
+
+-- What a line gives so: nothing where it says nothing, being empty or a comment; or what its text gives.
+abbrev pub ReadsFitted : Region → (line : List ℕ) → Given → Type 0
+ReadsFitted region line given =
+    ((said line ≡ None) × (given ≡ Nothing))
+    ⊎ ((text : List ℕ) × (said line ≡ Some text) × ReadsRefitted region text given)
+
 -- ---- A line that is a title.
 
 -- What it gives: the message of its text as it stands or was made to fit, or nothing; or it is refused.
@@ -57,6 +77,7 @@ ReadsTitle titles line (Refused fault) = IsUnsaid fault × IsRefused titles line
 -- What a line gives that is not too long, by what the lines of the input are.
 abbrev pub Reads : Input → (line : List ℕ) → Given → Type 0
 Reads (Phrases region) line given = ReadsPhrases region line given
+Reads (Fitted region) line given = ReadsFitted region line given
 Reads (TitlesOf titles) line given = ReadsTitle titles line given
 
 -- What a line gives: as it reads; or a refusal, where it is too long.
@@ -101,13 +122,13 @@ pub record FeedIntake (D : Type 0) : Type 0 where
 abbrev pub seen : {D : Type 0} → (remaining : D → Option (List ℕ)) → FeedIntake D → Intake
 seen remaining x = record { unread = remaining x.feed; lines = x.lines; refused = x.refused; said = x.said }
 
--- The line that is said of a title that was made to fit: its number, and its text as it was sent.
+-- The line that is said of a line that was made to fit: its number, and what was sent in its place.
 abbrev pub fitted_line : (number : ℕ) → (fitted : List ℕ) → List ℕ
 fitted_line number fitted =
-    codes "uecp: line " ++ (decimal number ++ (codes ": fitted to \"" ++ (fitted ++ codes "\"\n")))
+    codes "uecp: line " ++ (decimal number ++ (codes ": fitted to " ++ (fitted ++ codes "\n")))
 
--- What is said of a line that gives this: of one that is refused its number and its fault, and of a title that was made
--- to fit its number and its text, as far as that could be written; and of another nothing.
+-- What is said of a line that gives this: of one that is refused its number and its fault, and of one that was made to
+-- fit its number and what was sent in its place, as far as that could be written; and of another nothing.
 abbrev pub SaysOf : Given → (number : ℕ) → (said said' : Told) → Type 0
 SaysOf (Refused fault) number said said' = IsSaid said said' (error_lines (fault_at number fault))
 SaysOf (Gives message (Some fitted)) number said said' =

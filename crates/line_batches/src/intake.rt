@@ -1,12 +1,13 @@
 //! What a line gives. Source: profile.
 ghost use Rattle.std.specs.Prelude.{◌≡◌, IfOk, IfErr};
 ghost use Rattle.uecp_text.specs.declared.text_fault.TextFault.TheVariants.{OutOfMemory};
-ghost use Rattle.line_batches.specs.Intake.{Reads, ReadsPhrases, ReadsText, ReadsTitle};
+ghost use Rattle.line_batches.specs.Intake.{Reads, ReadsFitted, ReadsPhrases, ReadsRefitted, ReadsText};
+ghost use Rattle.line_batches.specs.Intake.{ReadsTitle};
 
 use phrase_scripts::{PhraseLine, phrase_line};
 use rds_text::Region;
 use std::alloc::Global;
-use titles::{Title, Titles, title_of};
+use titles::{Title, Titles, refitted_line, title_of};
 use uecp_frame::Message;
 use uecp_text::{TextFault, text_of};
 
@@ -15,6 +16,8 @@ use uecp_text::{TextFault, text_of};
 pub enum Input<'a> {
     /// Phrases between semicolons, with the programme types of the region.
     Phrases(Region),
+    /// The same; one that says nothing as it stands is read with its strings made to fit.
+    Fitted(Region),
     /// Titles, each a RadioText.
     Titles(Titles<'a>),
 }
@@ -24,8 +27,8 @@ pub enum Input<'a> {
 pub enum Given {
     /// Nothing: it is empty or a comment.
     Nothing,
-    /// A message; and where it is of a title that was made to fit, the text that was sent, as it is written between
-    /// quotes.
+    /// A message; and where it is of a line that was made to fit, what was sent: of a title its text as a string, of
+    /// phrases the line with its strings made to fit.
     Gives(Message, Option<String>),
     /// It is refused for this.
     Refused(TextFault),
@@ -40,6 +43,7 @@ pub(crate) fn read_line(alloc: Global, input: &Input<'_>, line: &[u8]) -> Result
 {
     match input {
         Input::Phrases(region) => read_phrases(alloc, *region, line),
+        Input::Fitted(region) => read_fitted(alloc, *region, line),
         Input::Titles(titles) => read_title(alloc, titles, line),
     }
 }
@@ -63,6 +67,32 @@ fn read_text(alloc: Global, region: Region, text: &[u8]) -> Result<Given, TextFa
     match phrase_line(alloc, region, text) {
         Ok(PhraseLine::Message(message)) => Ok(Given::Gives(message, None)),
         Ok(PhraseLine::Frame(_, _)) => Ok(Given::Refused(TextFault::NotACommand)),
+        Err(TextFault::OutOfMemory) => Err(TextFault::OutOfMemory),
+        Err(fault) => Ok(Given::Refused(fault)),
+    }
+}
+
+/// What a line of phrases gives where it is made to fit, or nothing.
+fn read_fitted(alloc: Global, region: Region, line: &[u8]) -> Result<Given, TextFault>
+    ensures reads { IfOk result (ReadsFitted region line.now) }
+    ensures refused { IfErr result (λ fault. fault ≡ OutOfMemory) }
+{
+    match text_of(line) {
+        None => Ok(Given::Nothing),
+        Some(text) => read_refitted(alloc, region, text),
+    }
+}
+
+/// What a text gives that a line of phrases says, with its strings made to fit where it says nothing as it stands.
+fn read_refitted(alloc: Global, region: Region, text: &[u8]) -> Result<Given, TextFault>
+    ensures reads { IfOk result (ReadsRefitted region text.now) }
+    ensures refused { IfErr result (λ fault. fault ≡ OutOfMemory) }
+{
+    match refitted_line(alloc, region, text) {
+        Ok((line, fitted)) => match line {
+            PhraseLine::Message(message) => Ok(Given::Gives(message, fitted)),
+            PhraseLine::Frame(_, _) => Ok(Given::Refused(TextFault::NotACommand)),
+        },
         Err(TextFault::OutOfMemory) => Err(TextFault::OutOfMemory),
         Err(fault) => Ok(Given::Refused(fault)),
     }

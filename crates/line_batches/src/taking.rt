@@ -279,7 +279,7 @@ fn next_given<F: Feed>(
     }
 }
 
-/// Counts a line, and says what is wrong with one that is refused, and what was sent of a title that was made to fit.
+/// Counts a line, and says what is wrong with one that is refused, and what was sent of one that was made to fit.
 fn count_line<E: Write>(given: &Given, errors: &mut NoticesTo<E>, tally: &mut Tally)
     ensures lines { tally.new.lines ≡ min (tally.old.lines + 1) (2 ^ 64 - 1) }
     ensures refused { tally.new.refused ≡ tally.old.refused || is_refusal given.now }
@@ -296,8 +296,8 @@ fn count_line<E: Write>(given: &Given, errors: &mut NoticesTo<E>, tally: &mut Ta
     }
 }
 
-/// Says what was sent of the title of the line of this number, which was made to fit.
-fn say_fitted<E: Write>(number: usize, fitted: &str, errors: &mut NoticesTo<E>)
+/// Says what was sent in the place of the line of this number, which was made to fit.
+pub fn say_fitted<E: Write>(number: usize, fitted: &str, errors: &mut NoticesTo<E>)
     ensures { Says errors.old errors.new (fitted_line number fitted.now) }
 {
     let mut buffer = Buffer::new();
@@ -305,10 +305,10 @@ fn say_fitted<E: Write>(number: usize, fitted: &str, errors: &mut NoticesTo<E>)
     say_line(digits, fitted.as_bytes(), errors);
 }
 
-/// Says the line of a number, in digits, and of the text that was sent.
+/// Says the line of a number, in digits, and of what was sent.
 fn say_line<'a, E: Write>(digits: &'a [u8], fitted: &'a [u8], errors: &mut NoticesTo<E>)
     ensures { Says errors.old errors.new
-        (codes "uecp: line " ++ (digits.now ++ (codes ": fitted to \"" ++ (fitted.now ++ codes "\"\n")))) }
+        (codes "uecp: line " ++ (digits.now ++ (codes ": fitted to " ++ (fitted.now ++ codes "\n")))) }
 {
-    errors.say(&[b"uecp: line ", digits, b": fitted to \"", fitted, b"\"\n"]);
+    errors.say(&[b"uecp: line ", digits, b": fitted to ", fitted, b"\n"]);
 }

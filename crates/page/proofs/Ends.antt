@@ -1,12 +1,12 @@
 -- By which end it is known what is on the air of a control line.
-use Rattle.std.proofs.Common.{◌≡◌, ◌≢◌, ℕ, Bool, true, false, cond, ◌||◌, List, [], ◌∷◌, ◌++◌, refl, ◌∙◌, ap, sym}
+use Rattle.std.proofs.Common.{◌≡◌, ◌≢◌, ℕ, Bool, true, false, cond, ◌||◌, List, [], ◌∷◌, ◌++◌, refl, ◌∙◌, ap}
 use Rattle.std.specs.Prelude.{All, codes}
 use Rattle.std.proofs.lemmas.List.Elements.{All-head, All-tail}
 use Rattle.serde_json.specs.Data.{Data}
 use Rattle.page.specs.Counts.{is_kind}
 use Rattle.page.specs.Shown.{is_shown, is_stored}
 use Rattle.page.specs.Air.{Air, no_air, air_after, after_message}
-use Rattle.page.specs.Answered.{is_of_encoder, is_acknowledged, is_in_doubt, answered_after}
+use Rattle.page.specs.Answered.{is_of_encoder, is_acknowledged, is_in_doubt}
 use Rattle.page.specs.ControlLine.{Arrived, Line, new_line, air_shown, line_after, line_behind}
 use Rattle.page.specs.CardLaws.{of_encoder, acknowledged, behind_messages}
 

@@ -13,6 +13,9 @@ pub mod Delivered
 pub mod Told
 pub mod Stale
 pub mod Minutes
+pub mod Kept
+pub mod Apart
+pub mod Histories
 pub mod Fields
 pub mod Heard
 pub mod Lives

@@ -7,8 +7,8 @@ use Rattle.std.proofs.lemmas.List.Sums.{sum_by-cons, sum_by-append}
 use Rattle.page.specs.declared.clients.client.Phase.{Phase}
 use Rattle.page.specs.declared.clients.client.Phase.TheVariants.{Asking, Live, Closing}
 use Rattle.page.specs.declared.clients.request.Route.{Route}
-use Rattle.page.specs.declared.clients.request.Route.TheVariants.{Page, Events, State, Metrics, Health, NotFound}
-use Rattle.page.specs.declared.clients.request.Route.TheVariants.{OtherMethod, Foreign}
+use Rattle.page.specs.declared.clients.request.Route.TheVariants.{Page, Events, State, History, Metrics}
+use Rattle.page.specs.declared.clients.request.Route.TheVariants.{Health, NotFound, OtherMethod, Foreign}
 use Rattle.page.specs.declared.guests.connection.Passed.{Passed}
 use Rattle.page.specs.declared.guests.connection.Passed.TheVariants.{Bytes, NotNow, Gone}
 use Rattle.page.specs.declared.guests.guest.Guest.{Guest}
@@ -52,6 +52,7 @@ opens_free : (source : Source) (route : Route) → opens source route ≡ true �
 opens_free source Events h = not_true source.is_full h
 opens_free source Page h = cc
 opens_free source State h = cc
+opens_free source History h = cc
 opens_free source Metrics h = cc
 opens_free source Health h = cc
 opens_free source NotFound h = cc

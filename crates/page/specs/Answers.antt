@@ -14,13 +14,14 @@ use Rattle.http1.specs.Server.{writing, planned_response, after_response}
 use Rattle.page.specs.declared.clients.client.Phase.TheVariants.{Closing}
 use Rattle.page.specs.declared.clients.html.TheConstants.{HTML, POLICY}
 use Rattle.page.specs.declared.clients.request.Route.{Route}
-use Rattle.page.specs.declared.clients.request.Route.TheVariants.{Page, Events, State, Metrics, Health, NotFound}
-use Rattle.page.specs.declared.clients.request.Route.TheVariants.{OtherMethod, Foreign}
+use Rattle.page.specs.declared.clients.request.Route.TheVariants.{Page, Events, State, History, Metrics}
+use Rattle.page.specs.declared.clients.request.Route.TheVariants.{Health, NotFound, OtherMethod, Foreign}
 use Rattle.page.specs.declared.state.silence.Moment.{Moment}
 use Rattle.page.specs.ControlLine.{Line}
 use Rattle.page.specs.State.{State as Shown}
 use Rattle.page.specs.Silence.{is_stale}
 use Rattle.page.specs.Texts.{state_data, metrics, stale_texts}
+use Rattle.page.specs.HistoryTexts.{history_data}
 use Rattle.page.specs.Events.{Past, is_gap, due}
 use Rattle.page.specs.Stream.{part_text, gap}
 use Rattle.page.specs.Sending.{Standing, IsLive}
@@ -60,6 +61,8 @@ abbrev pub answer_of : Source → Route → Answer
 answer_of source Page = given (codes "text/html; charset=utf-8") HTML.now
 answer_of source Events = plain 503 (codes "Service Unavailable") (codes "64 get the events already\n")
 answer_of source State = given (codes "application/json") (compact_text (state_data source.moment source.shown))
+answer_of source History =
+    given (codes "application/json") (compact_text (history_data source.moment.now source.shown))
 answer_of source Metrics =
     given (codes "text/plain; version=0.0.4; charset=utf-8") (metrics source.shown source.moment)
 answer_of source Health = health source.moment source.shown.lines
@@ -107,6 +110,7 @@ abbrev pub opens : Source → Route → Bool
 opens source Events = not source.is_full
 opens source Page = false
 opens source State = false
+opens source History = false
 opens source Metrics = false
 opens source Health = false
 opens source NotFound = false

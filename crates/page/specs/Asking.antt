@@ -5,15 +5,16 @@ use Rattle.std.specs.Char.{to_ascii_lowercase}
 use Rattle.std.specs.List.{list_all, starts_with, find}
 use Rattle.std.specs.Str.{bytes_eq}
 use Rattle.page.specs.declared.clients.request.Route.{Route}
-use Rattle.page.specs.declared.clients.request.Route.TheVariants.{Page, Events, State, Metrics, Health, NotFound}
-use Rattle.page.specs.declared.clients.request.Route.TheVariants.{OtherMethod, Foreign}
+use Rattle.page.specs.declared.clients.request.Route.TheVariants.{Page, Events, State, History, Metrics}
+use Rattle.page.specs.declared.clients.request.Route.TheVariants.{Health, NotFound, OtherMethod, Foreign}
 
--- Which of the five pages a target names, to the letter.
+-- Which of the six pages a target names, to the letter.
 abbrev pub page_of : (target : List ℕ) → Route
 page_of target =
     if bytes_eq target (codes "/") then Page
     else if bytes_eq target (codes "/events") then Events
     else if bytes_eq target (codes "/state") then State
+    else if bytes_eq target (codes "/history") then History
     else if bytes_eq target (codes "/metrics") then Metrics
     else if bytes_eq target (codes "/healthz") then Health
     else NotFound

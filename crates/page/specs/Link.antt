@@ -3,13 +3,16 @@ use Rattle.std.specs.Prelude.{ℕ, Bool, true, false, ◌&&◌, ◌||◌, List, 
 use Rattle.serde_json.specs.Data.{Data}
 use Rattle.page.specs.declared.state.link.Link.{Link}
 use Rattle.page.specs.declared.state.link.Link.TheVariants.{Connected, NoConnection, Lost, AnswersNothing, GivenUp}
+use Rattle.page.specs.declared.state.link.Link.TheVariants.{Ended}
 use Rattle.page.specs.Members.{text_at, number_at, says}
 use Rattle.page.specs.Counts.{is_kind, is_sent, is_refused_line, is_new_answer, has_bad_code}
 
--- What was told last of the connection, and the time of the object since which that is so; None where it had none.
+-- What was told last of the connection; the time of the object since which that is so, None where it had none; and the
+-- status that was told with it, as where sending ended.
 pub record Linked : Type 0 where
   pub link : Link
   pub since : Option (List ℕ)
+  pub status : Option ℕ
 
 -- The meaning and the time that were told of a message that was refused.
 pub record Refusal : Type 0 where
@@ -23,6 +26,7 @@ link_kind NoConnection = codes "no_connection"
 link_kind Lost = codes "lost"
 link_kind AnswersNothing = codes "answers_nothing"
 link_kind GivenUp = codes "line_given_up"
+link_kind Ended = codes "ended"
 
 -- Nothing goes over the line.
 abbrev pub is_bad : Link → Bool
@@ -31,6 +35,7 @@ is_bad NoConnection = true
 is_bad Lost = true
 is_bad AnswersNothing = true
 is_bad GivenUp = true
+is_bad Ended = true
 
 abbrev pub was_bad : Option Linked → Bool
 was_bad None = false
@@ -49,6 +54,7 @@ link_told bad d =
     else if is_kind (link_kind Lost) d then Some Lost
     else if is_kind (link_kind AnswersNothing) d then Some AnswersNothing
     else if is_kind (link_kind GivenUp) d then Some GivenUp
+    else if is_kind (link_kind Ended) d then Some Ended
     else if bad && is_heard d then Some Connected
     else None
 
@@ -60,7 +66,11 @@ since_when link d (Some before) =
 
 abbrev pub linked_so : Option Link → Data → Option Linked → Option Linked
 linked_so None d before = before
-linked_so (Some link) d before = Some (record { link = link; since = since_when link d before })
+linked_so (Some link) d before = Some (record {
+  link = link;
+  since = since_when link d before;
+  status = number_at (codes "status") d;
+})
 
 -- What is known of the connection behind an object.
 abbrev pub linked_after : Data → Option Linked → Option Linked

@@ -1,5 +1,5 @@
 -- What contracts see of what is kept.
-use Rattle.std.specs.Prelude.{map, option_map, string_bytes}
+use Rattle.std.specs.Prelude.{List, map, option_map, string_bytes}
 use Rattle.serde_json.specs.View.{view}
 use Rattle.page.specs.declared.state.row.Row.{Row}
 use Rattle.page.specs.declared.state.counts.Counts.{Counts as Counted}
@@ -8,6 +8,9 @@ use Rattle.page.specs.declared.state.minutes.Minutes.{Minutes as MinutesKept}
 use Rattle.page.specs.declared.state.link.Linked.{Linked as LinkKept}
 use Rattle.page.specs.declared.state.link.Refusal.{Refusal as RefusalKept}
 use Rattle.page.specs.declared.state.link.RefusedLine.{RefusedLine as RefusedLineKept}
+use Rattle.page.specs.declared.state.seen.Seen.{Seen as SeenKept}
+use Rattle.page.specs.declared.state.rows.Change.{Change as ChangeKept}
+use Rattle.page.specs.declared.state.rows.Changes.{Changes}
 use Rattle.page.specs.declared.state.line.Line.{Line as LineKept}
 use Rattle.page.specs.declared.state.page.Page.{Page}
 use Rattle.page.specs.Shown.{Service}
@@ -15,6 +18,8 @@ use Rattle.page.specs.Counts.{Counts}
 use Rattle.page.specs.Air.{Air}
 use Rattle.page.specs.Minutes.{Minutes}
 use Rattle.page.specs.Link.{Linked, Refusal, RefusedLine}
+use Rattle.page.specs.Seen.{Seen}
+use Rattle.page.specs.Changes.{Change}
 use Rattle.page.specs.ControlLine.{Line}
 use Rattle.page.specs.State.{State}
 
@@ -58,7 +63,7 @@ abbrev pub minutes_of : MinutesKept → Minutes
 minutes_of m = record { numbers = m.numbers; counts = m.counts }
 
 abbrev pub linked_of : LinkKept → Linked
-linked_of l = record { link = l.link; since = option_map string_bytes l.since }
+linked_of l = record { link = l.link; since = option_map string_bytes l.since; status = l.status }
 
 abbrev pub refusal_of : RefusalKept → Refusal
 refusal_of r = record { meaning = option_map string_bytes r.meaning; time = option_map string_bytes r.time }
@@ -71,6 +76,15 @@ refused_line_of r = record {
   text = option_map string_bytes r.text;
   time = option_map string_bytes r.time;
 }
+
+abbrev pub seen_of : SeenKept → Seen
+seen_of s = record { set = s.set; service = s.service; rt = option_map string_bytes s.rt; tp = s.tp; ta = s.ta }
+
+abbrev pub change_of : ChangeKept → Change
+change_of c = record { came = c.came; seen = seen_of c.seen }
+
+abbrev pub history_of : Changes → List Change
+history_of cs = map change_of cs.rows.items
 
 abbrev pub line_of : LineKept → Line
 line_of l = record {
@@ -86,6 +100,8 @@ line_of l = record {
   heard = option_map string_bytes l.heard;
   told_at = l.told_at;
   minutes = minutes_of l.minutes;
+  history = history_of l.changes;
+  announced = l.announced.items;
 }
 
 abbrev pub state_of : Page → State

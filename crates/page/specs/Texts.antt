@@ -10,6 +10,8 @@ use Rattle.page.specs.declared.state.metrics.Metric.TheVariants.{Lines, Sent, Se
 use Rattle.page.specs.declared.state.metrics.Metric.TheVariants.{Refusals, Dropped, Connections, NotTold, Connected}
 use Rattle.page.specs.declared.state.metrics.Metric.TheVariants.{Refused, RefusedLines, Silent}
 use Rattle.page.specs.declared.state.silence.Moment.{Moment}
+use Rattle.page.specs.declared.state.announced.Announcement.{Announcement}
+use Rattle.page.specs.Announced.{since_of, seconds_since}
 use Rattle.page.specs.Link.{Linked, Refusal, RefusedLine, link_kind, is_bad}
 use Rattle.page.specs.ControlLine.{Line, air_shown}
 use Rattle.page.specs.Minutes.{minute_of, last_hour}
@@ -28,17 +30,22 @@ abbrev pub number_data : Option ℕ → Data
 number_data None = null
 number_data (Some n) = number (unsigned n)
 
--- A service as an object, its members in the order of their names.
-abbrev pub service_data : Service → Data
-service_data s = object (member (codes "main") (boolean s.main) (member (codes "name") (text_data s.name)
+-- For how many whole seconds an announcement of a service is on, where one is.
+abbrev pub announced_data : (now : ℕ) → List Announcement → Service → Data
+announced_data now on s = number_data (option_map (seconds_since now) (since_of s.set s.service on))
+
+-- A service as an object, its members in the order of their names, where these announcements are on.
+abbrev pub service_data : (now : ℕ) → List Announcement → Service → Data
+service_data now on s = object (member (codes "announced") (announced_data now on s)
+    (member (codes "main") (boolean s.main) (member (codes "name") (text_data s.name)
     (member (codes "pi") (text_data s.pi) (member (codes "pty") (number_data s.pty)
     (member (codes "rt") (text_data s.rt) (member (codes "service") (number (unsigned s.service))
     (member (codes "set") (number (unsigned s.set)) (member (codes "ta") (flag_data s.ta)
-    (member (codes "tp") (flag_data s.tp) no_members)))))))))
+    (member (codes "tp") (flag_data s.tp) no_members))))))))))
 
-abbrev pub services_data : List Service → Items
-services_data [] = no_items
-services_data (s ∷ ss) = item (service_data s) (services_data ss)
+abbrev pub services_data : (now : ℕ) → List Announcement → List Service → Items
+services_data now on [] = no_items
+services_data now on (s ∷ ss) = item (service_data now on s) (services_data now on ss)
 
 abbrev pub counts_data : Counts → Data
 counts_data c = object (member (codes "connections") (number (unsigned c.connections))
@@ -51,7 +58,8 @@ counts_data c = object (member (codes "connections") (number (unsigned c.connect
     (member (codes "sent") (number (unsigned c.sent))
     (member (codes "sent_refusals") (number (unsigned c.sent_refusals)) no_members)))))))))))
 
--- What was told of the connection: the kind of the objects that tell it, and since when; null where nothing was.
+-- What was told of the connection: the kind of the objects that tell it, since when, and the status with which sending
+-- ended; null where nothing was.
 abbrev pub link_data : Option Linked → Data
 link_data None = null
 link_data (Some l) = string (link_kind l.link)
@@ -59,6 +67,10 @@ link_data (Some l) = string (link_kind l.link)
 abbrev pub since_data : Option Linked → Data
 since_data None = null
 since_data (Some l) = text_data l.since
+
+abbrev pub status_data : Option Linked → Data
+status_data None = null
+status_data (Some l) = number_data l.status
 
 abbrev pub refused_data : Option Refusal → Data
 refused_data None = null
@@ -90,9 +102,10 @@ line_data now l = object (member (codes "counts") (counts_data l.counts)
     (member (codes "minutes") (array (numbers_data (last_hour (minute_of now) l.minutes)))
     (member (codes "refused") (refused_data l.refused)
     (member (codes "refused_line") (refused_line_data l.refused_line)
-    (member (codes "services") (array (services_data (air_shown l).services))
+    (member (codes "services") (array (services_data now l.announced (air_shown l).services))
     (member (codes "silent") (number (unsigned (silent now l)))
-    (member (codes "since") (since_data l.linked) no_members)))))))))))))
+    (member (codes "since") (since_data l.linked)
+    (member (codes "status") (status_data l.linked) no_members))))))))))))))
 
 -- The members that come first of these.
 abbrev pub line_head : Line → Members

@@ -5,6 +5,7 @@ ghost use Rattle.page.specs.Laws.{TakenAsSent, EachOnce, BeginningOnce, OwedNewe
 ghost use Rattle.page.specs.CardLaws.{LineAlone, LineOnce, StoreClears, MainOnce, CountedOnce, OneEnd, AsAnswered};
 ghost use Rattle.page.specs.Life.{WholeLife};
 ghost use Rattle.page.specs.MinuteLaws.{MinuteExactly};
+ghost use Rattle.page.specs.HistoryLaws.{HistoryExactly, NoRowWithoutChange, AnnouncedExactly};
 ghost use Rattle.page.specs.StaleLaws.{StaleExactly, HealthExactly};
 ghost use Rattle.page.specs.Lines.{EachLineOnce, AllLinesAtEnd};
 ghost use Rattle.page.specs.Input.{RefusedExactly};
@@ -53,6 +54,24 @@ pub fn as_answered()
 /// What is told of a minute of the last hour is how many objects count as messages and came in it, whenever one asks.
 pub fn minute_exactly()
     ensures { MinuteExactly }
+{}
+
+/// Of the rows of all objects the last 1,000 are kept, each once and in order; and they say all that was shown: what
+/// was shown of a service, at any time, is what the last of its rows up to then says, nothing where it had none.
+pub fn history_exactly()
+    ensures { HistoryExactly }
+{}
+
+/// There is no row without a change: each row of an object says what is shown of its service behind it, and something
+/// else was shown of that before.
+pub fn no_row_without_change()
+    ensures { NoRowWithoutChange }
+{}
+
+/// An announcement is on since the object came that put it on, for as long as it stays on, whatever else is told; where
+/// none is shown as on none is.
+pub fn announced_exactly()
+    ensures { AnnouncedExactly }
 {}
 
 /// A control line is stale exactly where as many seconds as the limit says have gone by, by the page's clock, since the

@@ -3,8 +3,8 @@
 //!
 //! - [`Page`]: what is shown, a card for each control line, as a fold of the lines of JSON that `encoder`, `watch`,
 //!   `receive`, `answer` and `send` write; [`Took`] is what a line was. [`state_text`], [`metrics_text`]: it as JSON,
-//!   and its counts as monitoring systems read them, at a [`Moment`]; [`has_stale`], [`stale_text`]: whether nothing
-//!   was told of a control line for too long, and of which.
+//!   and its counts as monitoring systems read them, at a [`Moment`]; [`history_text`]: what changed in the last day;
+//!   [`has_stale`], [`stale_text`]: whether nothing was told of a control line for too long, and of which.
 //! - [`History`]: the last 1,000 events, and what a browser is owed that names the last one it has; [`put_event`],
 //!   [`GAP`], [`ALIVE`]: the parts of a stream of Server-Sent Events.
 //! - [`Client`]: one connection; [`Site`] is what it is answered from, [`Route`] what a request asks for, [`HTML`] the
@@ -31,5 +31,6 @@ pub use events::{ALIVE, AddFault, GAP, History, KEPT_MAX, number_of, put_event};
 pub use guests::{Accepted, Connection, Deed, Guests, Passed, Sockets};
 pub use intake::{Intake, Taken, first_number, own_only, status_of};
 pub use state::{
-    LINES_MAX, Moment, Page, SERVICES_MAX, Took, has_stale, metrics_text, stale_text, state_text,
+    LINES_MAX, Moment, Page, SERVICES_MAX, Took, has_stale, history_text, metrics_text, stale_text,
+    state_text,
 };

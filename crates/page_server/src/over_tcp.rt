@@ -108,13 +108,7 @@ fn listener_at<N: Net<Listener = TcpListener, Stream = TcpStream>>(
 fn fail_place<E: Write>(fault: AddressFault, errors: &mut NoticesTo<E>) -> u8
     ensures { result ≡ 2 }
 {
-    let text: &[u8] = match fault {
-        AddressFault::NoAddress => b"uecp: listen: no IP address\n",
-        AddressFault::NoPort => b"uecp: listen: no port is given\n",
-        AddressFault::TwoPorts => b"uecp: listen: two ports are given\n",
-        AddressFault::PortZero => b"uecp: listen: port 0 is none\n",
-    };
-    errors.say(&[text]);
+    errors.say(&[b"uecp: ", fault.text().as_bytes(), b"\n"]);
     2
 }
 
@@ -123,12 +117,8 @@ fn fail_bind<E: Write>(fault: BindFault, errors: &mut NoticesTo<E>) -> u8
     ensures { result ≡ 3 }
 {
     let status = fail(&RunFault::Listening, errors);
-    let text: &[u8] = match fault {
-        BindFault::InUse => b"uecp: somebody listens there already\n",
-        BindFault::NoSuchAddress => b"uecp: the machine has no such address\n",
-        BindFault::NotAllowed => b"uecp: not allowed\n",
-        BindFault::Failed => return status,
-    };
-    errors.say(&[text]);
+    if let Some(text) = fault.text() {
+        errors.say(&[b"uecp: ", text.as_bytes(), b"\n"]);
+    }
     status
 }

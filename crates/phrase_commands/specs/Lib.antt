@@ -1,2 +1,3 @@
--- The definitions that the contracts of quoting cite.
+-- The definitions that the contracts of the commands for phrases cite.
 pub mod Quoting
+pub mod Scripts

@@ -14,6 +14,7 @@ use Rattle.kept_jobs.specs.Stops.{Went, stop_status, stop_for}
 use Rattle.kept_jobs.specs.ServerRun.{Standing, SettlesOne, SendsOne}
 use Rattle.kept_jobs.proofs.Public.{goes, stopped, goes_not_stopped, same_status, Chain, After, after_none, after_on}
 use Rattle.output_forms.specs.declared.form.Form.{Form}
+use Rattle.sending.specs.declared.account.Account.TheVariants.{Numbered}
 use Rattle.sending.specs.Run.{AnswersTold, SendsBatch, SendsSome, SettlesLive}
 use Rattle.promises.proofs.Statuses.{not_so, answers_status}
 
@@ -21,20 +22,22 @@ use Rattle.promises.proofs.Statuses.{not_so, answers_status}
 abbrev pub IsSettled : Ended → Type 0
 IsSettled ended = (settled : Settled) × (ended ≡ Ok settled)
 
-answers_settled : (are_told : Settled → List ℕ → Type 0) (counts : ServerCounts) (ended : Ended)
-    (held held' : Option (List ℕ)) (went : Went) → AnswersTold are_told counts ended held held' went → goes ≡ went
+answers_settled : (form : Form) (are_told : Settled → List ℕ → Type 0) (counts : ServerCounts) (ended : Ended)
+    (held held' : Option (List ℕ)) (went : Went) → AnswersTold (Numbered form) are_told counts ended held held' went
+    → goes ≡ went
     → IsSettled ended
-answers_settled are_told counts (Ok settled) held held' went tells on = (settled, refl)
-answers_settled are_told counts (Err (kept.Outstanding reason)) held held' went (same, is) on =
+answers_settled form are_told counts (Ok settled) held held' went tells on = (settled, refl)
+answers_settled form are_told counts (Err (kept.Outstanding reason)) held held' went (same, is) on =
     absurd (goes_not_stopped (stop_for counts reason) (on ∙ is))
-answers_settled are_told counts (Err kept.StateFailed) held held' went (same, is) on =
+answers_settled form are_told counts (Err kept.StateFailed) held held' went (same, is) on =
     absurd (goes_not_stopped StateFailed (on ∙ is))
 
-answers_stop : (are_told : Settled → List ℕ → Type 0) (counts : ServerCounts) (ended : Ended)
-    (held held' : Option (List ℕ)) (went : Went) → AnswersTold are_told counts ended held held' went
+answers_stop : (form : Form) (are_told : Settled → List ℕ → Type 0) (counts : ServerCounts) (ended : Ended)
+    (held held' : Option (List ℕ)) (went : Went) → AnswersTold (Numbered form) are_told counts ended held held' went
     → (stop : KeptStop) → went ≡ stopped stop → stop_status stop ≡ 3
-answers_stop are_told counts ended held held' went tells stop is =
-    answers_status are_told counts ended held held' stop (subst (AnswersTold are_told counts ended held held') is tells)
+answers_stop form are_told counts ended held held' went tells stop is =
+    answers_status form are_told counts ended held held' stop
+    (subst (AnswersTold (Numbered form) are_told counts ended held held') is tells)
 
 module _ {C I O K : Type 0} (opens : C → Option (I × O) → C → Type 0) (closes : C → I → O → C → Type 0)
     (remaining : I → Option (List ℕ)) (contents : O → Option (List ℕ)) (leaves : K → KeptServer → Type 0)
@@ -145,14 +148,15 @@ module _ {C I O K : Type 0} (opens : C → Option (I × O) → C → Type 0) (cl
       by (inr is) = ap (λ (k : KeptServer). k.taken) is
 
   pub settles_call : (form : Form) (x x' : At) (applied applied' : Bool) (unknown unknown' : ℕ) (went : Went)
-      → SettlesLive opens closes remaining contents leaves is_clean saves fails form x x' applied applied' unknown
+      → SettlesLive opens closes remaining contents leaves is_clean saves fails (Numbered form) x x' applied applied'
+      unknown
       unknown'
       went → Called 0 x x' went
   settles_call form x x' applied applied' unknown unknown' went (inl (idle, same, apply, are, is)) =
       subst (λ y. Called 0 x y went) (sym same) (called_none x went is)
   settles_call form x x' applied applied' unknown unknown' went (inr (some, (ended, one, tells, apply, are))) =
       let settled_so : goes ≡ went → IsSettled ended =
-      answers_settled _ x'.runs.sender.server.counts ended x.held x'.held went tells in
+      answers_settled form _ x'.runs.sender.server.counts ended x.held x'.held went tells in
       record {
         after = record {
           clean = one.clean;
@@ -165,20 +169,21 @@ module _ {C I O K : Type 0} (opens : C → Option (I × O) → C → Type 0) (cl
         counted = (let same = ap (λ (p : Progress). p.taken) one.progress in omega (arith, same));
         joined = ap (λ (p : Progress). p.joined) one.progress;
         idle = λ on idle. settled_idle ended x x' one (settled_so on);
-        status = answers_stop _ x'.runs.sender.server.counts ended x.held x'.held went
+        status = answers_stop form _ x'.runs.sender.server.counts ended x.held x'.held went
             tells;
       }
 
   -- none waits any longer
   pub settles_idle : (form : Form) (x x' : At) (applied applied' : Bool) (unknown unknown' : ℕ) (went : Went)
-      → SettlesLive opens closes remaining contents leaves is_clean saves fails form x x' applied applied' unknown
+      → SettlesLive opens closes remaining contents leaves is_clean saves fails (Numbered form) x x' applied applied'
+      unknown
       unknown'
       went → goes ≡ went → x'.runs.sender.server.held ≡ []
   settles_idle form x x' applied applied' unknown unknown' went (inl (idle, same, apply, are, is)) on =
       subst (λ (y : At). y.runs.sender.server.held ≡ []) (sym same) idle
   settles_idle form x x' applied applied' unknown unknown' went (inr (some, (ended, one, tells, apply, are))) on =
       settled_idle ended x x' one
-      (answers_settled _ x'.runs.sender.server.counts ended x.held x'.held went tells on)
+      (answers_settled form _ x'.runs.sender.server.counts ended x.held x'.held went tells on)
 
   -- ---- A batch is sent.
 
@@ -234,12 +239,13 @@ module _ {C I O K : Type 0} (opens : C → Option (I × O) → C → Type 0) (cl
       by (inr (inr is)) = (length batch, ap (λ (k : KeptServer). k.taken) is ∙ counted, omega arith)
 
   sends_call : (form : Form) (batch : List (List ℕ)) (x x' : At) (applied applied' : Bool) (unknown' : ℕ) (went : Went)
-      → SendsBatch opens closes remaining contents leaves is_clean saves fails form batch x x' applied applied' unknown'
+      → SendsBatch opens closes remaining contents leaves is_clean saves fails (Numbered form) batch x x' applied
+      applied' unknown'
       went
       → Called (length batch) x x' went
   sends_call form batch x x' applied applied' unknown' went (ended, one, tells, apply, are) =
       let settled_so : goes ≡ went → IsSettled ended =
-      answers_settled _ x'.runs.sender.server.counts ended x.held x'.held went tells in
+      answers_settled form _ x'.runs.sender.server.counts ended x.held x'.held went tells in
       record {
         after = record {
           clean = one.clean;
@@ -251,12 +257,13 @@ module _ {C I O K : Type 0} (opens : C → Option (I × O) → C → Type 0) (cl
         counted = ap (λ (p : Progress). p.taken) one.progress;
         joined = ap (λ (p : Progress). p.joined) one.progress;
         idle = λ on idle. sent_idle batch ended x x' one (settled_so on);
-        status = answers_stop _ x'.runs.sender.server.counts ended x.held x'.held went tells;
+        status = answers_stop form _ x'.runs.sender.server.counts ended x.held x'.held went tells;
       }
 
   pub sends_some : (form : Form) (batch : List (List ℕ)) (x x' : At) (applied applied' : Bool) (unknown unknown' : ℕ)
       (went : Went)
-      → SendsSome opens closes remaining contents leaves is_clean saves fails form batch x x' applied applied' unknown
+      → SendsSome opens closes remaining contents leaves is_clean saves fails (Numbered form) batch x x' applied
+      applied' unknown
       unknown' went → Called (length batch) x x' went
   sends_some form batch x x' applied applied' unknown unknown' went (inl (none, same, apply, are, is)) =
       subst (λ ms. Called (length ms) x x' went) (sym none)

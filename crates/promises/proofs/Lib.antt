@@ -30,6 +30,9 @@ pub mod LiveMaking
 pub mod Senders
 pub mod Runs
 pub mod LiveEnding
+pub mod SendEnding
+pub mod Days
+pub mod DeviceRuns
 pub mod LiveAnswering
 pub mod LiveTelling
 pub mod Speaking

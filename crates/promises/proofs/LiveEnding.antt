@@ -16,6 +16,7 @@ use Rattle.line_feed.specs.declared.feed_fault.NotKept.{NotKept}
 use Rattle.line_feed.specs.Lines.{Refusal}
 use Rattle.line_batches.specs.Intake.{Intake, FeedIntake, seen}
 use Rattle.line_batches.proofs.Public.{is_seen}
+use Rattle.sending.specs.Sources.{FromFeed}
 use Rattle.sending.specs.Run.{tally_status}
 use Rattle.sending.specs.Run as over
 use Rattle.promises.proofs.OverLines.{Live, LivesFrom, InSight, from_seen}
@@ -30,7 +31,7 @@ use Rattle.promises.proofs.Runs.{whole}
 use Rattle.promises.proofs.TellingRuns.{whole_told}
 use Rattle.notices.specs.Told.{Told, Says}
 
-not_three : (status : ℕ) → IsDone status → status ≡ 3 → ⊥
+pub not_three : (status : ℕ) → IsDone status → status ≡ 3 → ⊥
 not_three status (inl is) three = absurd (omega arith)
 not_three status (inr (inl is)) three = absurd (omega arith)
 not_three status (inr (inr is)) three = absurd (omega arith)
@@ -91,17 +92,29 @@ module _ {D C I O K : Type 0} (unread : D → Option (List ℕ))
   -- what is seen of a run
   by_sight : (options : LiveOptions) (c c' : C) (x : Standing ServerState K) (k' : K) (held' : Option (List ℕ))
       (feed : D) (said : Told) (end : FeedIntake D) (applied : Bool) (went : Went)
-      → over.LivesFrom (over.FromFeed unread takes says passes) opens closes remaining contents leaves is_clean saves
-      fails
-      options c c' (fed_at options x feed said) k' held' end applied went
+      → over.LivesFrom (FromFeed unread takes says passes options.reading.input options.reading.strict) opens closes
+      remaining contents leaves is_clean saves fails (over.run_of options) c c' (fed_at options x feed said) k' held'
+      end applied went
       → LivesFrom opens closes remaining contents leaves is_clean saves fails options c c'
       (begins_at options x (unread feed) said) k' held' (seen unread end) applied went
   by_sight options c c' x k' held' feed said end applied went lives =
       from_seen opens closes remaining contents leaves is_clean saves fails (seen unread)
-      (over.FromFeed unread takes says passes) InSight
-      (λ reading messages after i i'. is_seen unread takes says passes reading.input reading.size reading.strict
-      messages
-      after i i') options c c' (fed_at options x feed said) k' held' end applied went lives
+      (FromFeed unread takes says passes options.reading.input options.reading.strict)
+      (InSight options.reading.input options.reading.strict)
+      (λ size messages after i i'. is_seen unread takes says passes options.reading.input size options.reading.strict
+      messages after i i') (over.run_of options) c c' (fed_at options x feed said) k' held' end applied went lives
+
+  -- that of the keeper holds at the start where it holds at the end
+  pub clean_back : (options : LiveOptions) (c c' : C) (x : Standing ServerState K) (k' : K)
+      (held' : Option (List ℕ)) (feed feed' : D) (said said' : Told) (status : ℕ)
+      → over.Lives unread takes says passes opens closes remaining contents leaves is_clean saves fails options c c' x
+      k' held' feed feed' said said' status
+      → is_clean k' → is_clean x.keeper
+  clean_back options c c' x k' held' feed feed' said said' status (went, end, applied, lives, feed_is, ended) =
+      let run = by_sight options c c' x k' held' feed said end applied went lives in
+      let w = whole opens closes remaining contents leaves is_clean saves fails options c c'
+      (begins_at options x (unread feed) said) k' held' (seen unread end) applied went run in
+      w.clean
 
   pub done_is_kept_lem : DoneIsKept unread takes says passes opens closes remaining contents leaves is_clean saves fails
   done_is_kept_lem options c c' x k' held' feed feed' said said' status
@@ -175,7 +188,7 @@ module _ {D C I O K : Type 0} (unread : D → Option (List ℕ))
       fails
   taken_in_batches_lem options c c' x k' held' feed feed' said said' status
       (went, end, applied, lives, feed_is, ended) =
-      let (batches, are) = in_all (over.FromFeed unread takes says passes) opens closes remaining contents leaves
-      is_clean
-      saves fails options c c' (fed_at options x feed said) k' held' end applied went lives in
+      let (batches, are) = in_all (FromFeed unread takes says passes options.reading.input options.reading.strict)
+      opens closes remaining contents leaves is_clean saves fails (over.run_of options) c c'
+      (fed_at options x feed said) k' held' end applied went lives in
       (batches, end, are, feed_is)

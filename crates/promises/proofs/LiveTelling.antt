@@ -26,6 +26,7 @@ use Rattle.kept_jobs.proofs.Public.{goes, stopped, goes_not_stopped}
 use Rattle.line_batches.specs.declared.taking.After.{After}
 use Rattle.line_batches.specs.declared.taking.After.TheVariants.{GoesOn, Ends}
 use Rattle.output_forms.specs.declared.form.Form.{Form}
+use Rattle.sending.specs.declared.account.Account.TheVariants.{Numbered}
 use Rattle.sending.specs.Lines.{is_applied}
 use Rattle.sending.specs.Run.{AnswersTold, RepliesOf, SendsSome, unknown_of, are_applied}
 use Rattle.promises.proofs.OverLines.{Live, Turn, GoesOnFor, RunsTurns}
@@ -136,7 +137,7 @@ module _ {C I O K : Type 0} (opens : C → Option (I × O) → C → Type 0) (cl
   told_batch : (batch : List (List ℕ)) (ended : Ended) (x x' : At) (was is : Bool) (unknown' : ℕ) (went : Went)
       → is ≡ was && are_applied ended → x.runs.sender.server.held ≡ []
       → SendsOne opens closes remaining contents leaves is_clean saves fails batch ended x x'
-      → AnswersTold (RepliesOf form x'.progress.taken
+      → AnswersTold (Numbered form) (RepliesOf (Numbered form) x'.progress.taken
       (waiting (submitted_all x.runs batch).sender.server)) x'.runs.sender.server.counts ended x.held x'.held
       went
       → unknown' ≡ unknown_of (length batch) ended → Onward went unknown' → Told x x' was is unknown'
@@ -178,7 +179,8 @@ module _ {C I O K : Type 0} (opens : C → Option (I × O) → C → Type 0) (cl
 
   told_some : (batch : List (List ℕ)) (x x' : At) (applied applied' : Bool) (unknown unknown' : ℕ) (went : Went)
       → x.runs.sender.server.held ≡ [] → unknown ≡ 0
-      → SendsSome opens closes remaining contents leaves is_clean saves fails form batch x x' applied applied' unknown
+      → SendsSome opens closes remaining contents leaves is_clean saves fails (Numbered form) batch x x' applied
+      applied' unknown
       unknown' went → Onward went unknown' → Told x x' applied applied' unknown'
   told_some batch x x' applied applied' unknown unknown' went idle zero_is (inl (none, same, apply, are, is)) onward =
       subst (λ y. Told x y applied applied' unknown') (sym same)

@@ -8,11 +8,13 @@ use Rattle.uecp_net.specs.Keeping.{KeptServer}
 use Rattle.kept_jobs.specs.Stops.{Went}
 use Rattle.line_batches.specs.declared.taking.After.{After}
 use Rattle.line_batches.specs.declared.taking.After.TheVariants.{GoesOn, Ends}
-use Rattle.line_batches.specs.declared.taking.Reading.{Reading}
 use Rattle.line_batches.specs.Intake.{Intake}
 use Rattle.line_batches.specs.Laws.{SeesBatch}
 use Rattle.output_forms.specs.declared.form.Form.{Form}
+use Rattle.sending.specs.declared.account.Account.{Account}
+use Rattle.sending.specs.declared.account.Account.TheVariants.{Numbered}
 use Rattle.sending.specs.declared.options.LiveOptions.{LiveOptions}
+use Rattle.sending.specs.declared.options.RunOptions.{RunOptions}
 use Rattle.sending.specs.Run as over
 
 -- where a run stands, by what is seen of its input
@@ -20,49 +22,65 @@ abbrev pub Live : (S K : Type 0) → Type 0
 Live S K = over.Live Intake S K
 
 -- what is seen of a batch
-abbrev pub InSight : Reading → (messages : List (List ℕ)) → After → (x x' : Intake) → Type 0
-InSight reading = SeesBatch reading.input reading.size reading.strict
+abbrev pub InSight : Input → (strict : Bool) → (size : ℕ) → (messages : List (List ℕ)) → After → (x x' : Intake)
+    → Type 0
+InSight input strict size = SeesBatch input size strict
 
 module _ {C I O K : Type 0} (opens : C → Option (I × O) → C → Type 0) (closes : C → I → O → C → Type 0)
     (remaining : I → Option (List ℕ)) (contents : O → Option (List ℕ)) (leaves : K → KeptServer → Type 0)
     (is_clean : K → Type 0) (saves fails : K → KeptServer → K → Type 0) where
   module _ (form : Form) (input : Input) (size : ℕ) (strict : Bool) where
     abbrev pub Turn : (x x' : Live (SenderOver C I O) K) → After → Went → Type 0
-    Turn = over.Turn (SeesBatch input size strict) opens closes remaining contents leaves is_clean saves fails form
+    Turn = over.Turn (SeesBatch input size strict) opens closes remaining contents leaves is_clean saves fails
+        (Numbered form)
 
     abbrev pub GoesOnFor : (turns : ℕ) → (x x' : Live (SenderOver C I O) K) → Type 0
     GoesOnFor =
-        over.GoesOnFor (SeesBatch input size strict) opens closes remaining contents leaves is_clean saves fails form
+        over.GoesOnFor (SeesBatch input size strict) opens closes remaining contents leaves is_clean saves fails
+        (Numbered form)
 
     abbrev pub RunsTurns : (x x' : Live (SenderOver C I O) K) → Went → Type 0
     RunsTurns =
-        over.RunsTurns (SeesBatch input size strict) opens closes remaining contents leaves is_clean saves fails form
+        over.RunsTurns (SeesBatch input size strict) opens closes remaining contents leaves is_clean saves fails
+        (Numbered form)
 
   abbrev pub RunsOn : LiveOptions → (behind : After) → (x x' : Live (SenderOver C I O) K) → Went → Type 0
-  RunsOn = over.RunsOn InSight opens closes remaining contents leaves is_clean saves fails
+  RunsOn options = over.RunsOn (InSight options.reading.input options.reading.strict) opens closes remaining contents
+      leaves
+      is_clean saves fails (over.run_of options)
 
   abbrev pub RunsLive : LiveOptions → (due : Bool) → (x x' : Live (SenderOver C I O) K) → Went → Type 0
-  RunsLive = over.RunsLive InSight opens closes remaining contents leaves is_clean saves fails
+  RunsLive options = over.RunsLive (InSight options.reading.input options.reading.strict) opens closes remaining
+      contents leaves
+      is_clean saves fails (over.run_of options)
 
   abbrev pub RunsOne : LiveOptions → (due : Bool) → (c c' : C) → (x x' : Live ServerState K) → Went → Type 0
-  RunsOne = over.RunsOne InSight opens closes remaining contents leaves is_clean saves fails
+  RunsOne options = over.RunsOne (InSight options.reading.input options.reading.strict) opens closes remaining contents
+      leaves
+      is_clean saves fails (over.run_of options)
 
   abbrev pub RunsAgain : LiveOptions → (address : ℕ) → (c c' : C) → (x x' : Live ServerState K) → Went → Type 0
-  RunsAgain = over.RunsAgain InSight opens closes remaining contents leaves is_clean saves fails
+  RunsAgain options = over.RunsAgain (InSight options.reading.input options.reading.strict) opens closes remaining
+      contents leaves
+      is_clean saves fails (over.run_of options)
 
   abbrev pub RunsFor : LiveOptions → (due : Bool) → (again : ℕ) → (c c' : C) → (x x' : Live ServerState K) → Went
       → Type 0
-  RunsFor = over.RunsFor InSight opens closes remaining contents leaves is_clean saves fails
+  RunsFor options = over.RunsFor (InSight options.reading.input options.reading.strict) opens closes remaining contents
+      leaves
+      is_clean saves fails (over.run_of options)
 
   abbrev pub LivesFrom : LiveOptions → (c c' : C) → (x : Live ServerState K) → (k' : K) → (held' : Option (List ℕ))
       → (taken : Intake) → (applied : Bool) → Went → Type 0
-  LivesFrom = over.LivesFrom InSight opens closes remaining contents leaves is_clean saves fails
+  LivesFrom options = over.LivesFrom (InSight options.reading.input options.reading.strict) opens closes remaining
+      contents leaves
+      is_clean saves fails (over.run_of options)
 
   -- ---- What is seen of where a run stands, where that is seen of each batch.
-  module _ {T U : Type 0} (at : T → U) (takes : Reading → List (List ℕ) → After → T → T → Type 0)
-      (sees : Reading → List (List ℕ) → After → U → U → Type 0)
-      (sight : (reading : Reading) (messages : List (List ℕ)) (after : After) (x x' : T)
-      → takes reading messages after x x' → sees reading messages after (at x) (at x')) where
+  module _ {T U : Type 0} (at : T → U) (takes : ℕ → List (List ℕ) → After → T → T → Type 0)
+      (sees : ℕ → List (List ℕ) → After → U → U → Type 0)
+      (sight : (size : ℕ) (messages : List (List ℕ)) (after : After) (x x' : T)
+      → takes size messages after x x' → sees size messages after (at x) (at x')) where
     abbrev seen : {S : Type 0} → over.Live T S K → over.Live U S K
     seen x = record {
       sends = x.sends;
@@ -78,65 +96,65 @@ module _ {C I O K : Type 0} (opens : C → Option (I × O) → C → Type 0) (cl
     abbrev Was : Type 0
     Was = over.Live T ServerState K
 
-    turn_seen : (reading : Reading) (form : Form) (x x' : At) (after : After) (went : Went)
-        → over.Turn (takes reading) opens closes remaining contents leaves is_clean saves fails form x x' after went
-        → over.Turn (sees reading) opens closes remaining contents leaves is_clean saves fails form (seen x) (seen x')
+    turn_seen : (size : ℕ) (account : Account) (x x' : At) (after : After) (went : Went)
+        → over.Turn (takes size) opens closes remaining contents leaves is_clean saves fails account x x' after went
+        → over.Turn (sees size) opens closes remaining contents leaves is_clean saves fails account (seen x) (seen x')
         after went
-    turn_seen reading form x x' after went turn = record {
+    turn_seen size account x x' after went turn = record {
       messages = turn.messages;
-      taken = sight reading turn.messages after x.takes x'.takes turn.taken;
+      taken = sight size turn.messages after x.takes x'.takes turn.taken;
       sends = turn.sends;
       behind = turn.behind;
     }
 
-    going_seen : (reading : Reading) (form : Form) (n : ℕ) (x x' : At)
-        → over.GoesOnFor (takes reading) opens closes remaining contents leaves is_clean saves fails form n x x'
-        → over.GoesOnFor (sees reading) opens closes remaining contents leaves is_clean saves fails form n (seen x)
+    going_seen : (size : ℕ) (account : Account) (n : ℕ) (x x' : At)
+        → over.GoesOnFor (takes size) opens closes remaining contents leaves is_clean saves fails account n x x'
+        → over.GoesOnFor (sees size) opens closes remaining contents leaves is_clean saves fails account n (seen x)
         (seen x')
-    going_seen reading form zero x x' same = ap seen same
-    going_seen reading form (suc n) x x' (y, before, turn) =
-        (seen y, going_seen reading form n x y before, turn_seen reading form y x' GoesOn (Ok tt) turn)
+    going_seen size account zero x x' same = ap seen same
+    going_seen size account (suc n) x x' (y, before, turn) =
+        (seen y, going_seen size account n x y before, turn_seen size account y x' GoesOn (Ok tt) turn)
 
-    turns_seen : (reading : Reading) (form : Form) (x x' : At) (went : Went)
-        → over.RunsTurns (takes reading) opens closes remaining contents leaves is_clean saves fails form x x' went
-        → over.RunsTurns (sees reading) opens closes remaining contents leaves is_clean saves fails form (seen x)
+    turns_seen : (size : ℕ) (account : Account) (x x' : At) (went : Went)
+        → over.RunsTurns (takes size) opens closes remaining contents leaves is_clean saves fails account x x' went
+        → over.RunsTurns (sees size) opens closes remaining contents leaves is_clean saves fails account (seen x)
         (seen x') went
-    turns_seen reading form x x' went (n, y, before, inl (inl (end, turn, is))) = (
+    turns_seen size account x x' went (n, y, before, inl (inl (end, turn, is))) = (
       n,
       seen y,
-      going_seen reading form n x y before,
-      inl (inl (end, turn_seen reading form y x' (Ends end) (Ok tt) turn, is)),
+      going_seen size account n x y before,
+      inl (inl (end, turn_seen size account y x' (Ends end) (Ok tt) turn, is)),
     )
-    turns_seen reading form x x' went (n, y, before, inl (inr (after, stop, turn, is))) = (
+    turns_seen size account x x' went (n, y, before, inl (inr (after, stop, turn, is))) = (
       n,
       seen y,
-      going_seen reading form n x y before,
-      inl (inr (after, stop, turn_seen reading form y x' after (Err stop) turn, is)),
+      going_seen size account n x y before,
+      inl (inr (after, stop, turn_seen size account y x' after (Err stop) turn, is)),
     )
-    turns_seen reading form x x' went (n, y, before, inr (all, same, is)) =
-        (n, seen y, going_seen reading form n x y before, inr (all, ap seen same, is))
+    turns_seen size account x x' went (n, y, before, inr (all, same, is)) =
+        (n, seen y, going_seen size account n x y before, inr (all, ap seen same, is))
 
-    makes_seen : (options : LiveOptions) (due : Bool) (x x' : At) (went : Went)
+    makes_seen : (options : RunOptions) (due : Bool) (x x' : At) (went : Went)
         → over.MakesOnce opens closes remaining contents leaves is_clean saves fails options due x x' went
         → over.MakesOnce opens closes remaining contents leaves is_clean saves fails options due (seen x) (seen x') went
     makes_seen options due x x' went (makes, same, unknown, behind) = (makes, ap at same, unknown, behind)
 
-    settles_seen : (options : LiveOptions) (x x' : At) (went : Went)
+    settles_seen : (options : RunOptions) (x x' : At) (went : Went)
         → over.SettlesOnce opens closes remaining contents leaves is_clean saves fails options x x' went
         → over.SettlesOnce opens closes remaining contents leaves is_clean saves fails options (seen x) (seen x') went
     settles_seen options x x' went (settles, same, behind) = (settles, ap at same, behind)
 
-    runs_on_seen : (options : LiveOptions) (behind : After) (x x' : At) (went : Went)
+    runs_on_seen : (options : RunOptions) (behind : After) (x x' : At) (went : Went)
         → over.RunsOn takes opens closes remaining contents leaves is_clean saves fails options behind x x' went
         → over.RunsOn sees opens closes remaining contents leaves is_clean saves fails options behind (seen x) (seen x')
         went
     runs_on_seen options GoesOn x x' went (inl (y, settles, turns)) =
-        inl (seen y, settles_seen options x y (Ok tt) settles, turns_seen options.reading options.form y x' went turns)
+        inl (seen y, settles_seen options x y (Ok tt) settles, turns_seen options.size options.account y x' went turns)
     runs_on_seen options GoesOn x x' went (inr (stop, settles, is)) =
         inr (stop, settles_seen options x x' (Err stop) settles, is)
     runs_on_seen options (Ends end) x x' went (same, is) = (ap seen same, is)
 
-    runs_live_seen : (options : LiveOptions) (due : Bool) (x x' : At) (went : Went)
+    runs_live_seen : (options : RunOptions) (due : Bool) (x x' : At) (went : Went)
         → over.RunsLive takes opens closes remaining contents leaves is_clean saves fails options due x x' went
         → over.RunsLive sees opens closes remaining contents leaves is_clean saves fails options due (seen x) (seen x')
         went
@@ -145,14 +163,14 @@ module _ {C I O K : Type 0} (opens : C → Option (I × O) → C → Type 0) (cl
     runs_live_seen options due x x' went (inr (stop, makes, is)) =
         inr (stop, makes_seen options due x x' (Err stop) makes, is)
 
-    one_seen : (options : LiveOptions) (due : Bool) (c c' : C) (x x' : Was) (went : Went)
+    one_seen : (options : RunOptions) (due : Bool) (c c' : C) (x x' : Was) (went : Went)
         → over.RunsOne takes opens closes remaining contents leaves is_clean saves fails options due c c' x x' went
         → over.RunsOne sees opens closes remaining contents leaves is_clean saves fails options due c c' (seen x)
         (seen x') went
     one_seen options due c c' x x' went (loan, z, runs, hangs_up, is) =
         (loan, seen z, runs_live_seen options due _ z went runs, hangs_up, ap seen is)
 
-    again_seen : (options : LiveOptions) (address : ℕ) (c c' : C) (x x' : Was) (went : Went)
+    again_seen : (options : RunOptions) (address : ℕ) (c c' : C) (x x' : Was) (went : Went)
         → over.RunsAgain takes opens closes remaining contents leaves is_clean saves fails options address c c' x x'
         went
         → over.RunsAgain sees opens closes remaining contents leaves is_clean saves fails options address c c' (seen x)
@@ -162,7 +180,7 @@ module _ {C I O K : Type 0} (opens : C → Option (I × O) → C → Type 0) (cl
     again_seen options address c c' x x' went (y, idle, inr (stop, renews, is, stays, same)) =
         (y, idle, inr (stop, renews, is, stays, ap seen same))
 
-    for_seen : (options : LiveOptions) (due : Bool) (again : ℕ) (c c' : C) (x x' : Was) (went : Went)
+    for_seen : (options : RunOptions) (due : Bool) (again : ℕ) (c c' : C) (x x' : Was) (went : Went)
         → over.RunsFor takes opens closes remaining contents leaves is_clean saves fails options due again c c' x x'
         went
         → over.RunsFor sees opens closes remaining contents leaves is_clean saves fails options due again c c' (seen x)
@@ -178,7 +196,7 @@ module _ {C I O K : Type 0} (opens : C → Option (I × O) → C → Type 0) (cl
       again_seen options x.sends.runs.address d c' y x' went again,
     )
 
-    pub from_seen : (options : LiveOptions) (c c' : C) (x : Was) (k' : K) (held' : Option (List ℕ)) (taken : T)
+    pub from_seen : (options : RunOptions) (c c' : C) (x : Was) (k' : K) (held' : Option (List ℕ)) (taken : T)
         (applied : Bool) (went : Went)
         → over.LivesFrom takes opens closes remaining contents leaves is_clean saves fails options c c' x k' held' taken
         applied went

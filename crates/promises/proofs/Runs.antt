@@ -529,6 +529,7 @@ module _ {C I O K : Type 0} (opens : C → Option (I × O) → C → Type 0) (cl
     pub passes : Passes options.reading.strict lines
     pub pauses : Pauses options.reading.input mid end
     pub done : goes ≡ went → ComesToEnd options.reading.input options.reading.strict lines mid end
+    pub clean : is_clean k' → is_clean x.sends.keeper
     pub has_taken : goes ≡ went → IsKeptOf x.sends → is_clean k' → (left : KeptServer) → leaves k' left
         → HasTaken x.sends.progress (length (messages_in lines)) left
     pub outlives : IsKeptOf x.sends → is_clean k' → (left : KeptServer) → leaves k' left
@@ -554,6 +555,7 @@ module _ {C I O K : Type 0} (opens : C → Option (I × O) → C → Type 0) (cl
         passes = r.passes;
         pauses = r.pauses;
         done = r.done;
+        clean = λ clean. begun.clean (r.clean clean);
         has_taken = λ on settled clean left leaves_it.
             (let is : left ≡ kept_of z.sends.progress z.sends.runs =
             r.settled on (begun.settled refl settled (r.clean clean)) clean left leaves_it in
@@ -576,6 +578,7 @@ module _ {C I O K : Type 0} (opens : C → Option (I × O) → C → Type 0) (cl
         passes = inl (λ is_strict. refl);
         pauses = inl takes;
         done = λ on. absurd (goes_not_stopped stop (on ∙ is));
+        clean = begun.clean;
         has_taken = λ on. absurd (goes_not_stopped stop (on ∙ is));
         outlives = λ settled clean left leaves_it. by left (begun.outlives settled clean left leaves_it);
         status = λ other stops. begin_status options.form due x.sends y other

@@ -13,7 +13,7 @@ use Rattle.line_batches.specs.declared.intake.Given.{Given}
 use Rattle.line_batches.specs.declared.taking.After.TheVariants.{GoesOn, Ends}
 use Rattle.line_batches.specs.Intake.{Intake, TakesLines, messages_in}
 use Rattle.sending.specs.declared.options.LiveOptions.{LiveOptions}
-use Rattle.sending.specs.Run.{MakesOnce, ended_as}
+use Rattle.sending.specs.Run.{MakesOnce, ended_as, run_of}
 use Rattle.promises.proofs.OverLines.{Live, RunsOn, RunsLive}
 use Rattle.promises.specs.Taken.{Pauses, ComesToEnd, Passes}
 use Rattle.promises.proofs.LiveLines.{Stands}
@@ -111,7 +111,7 @@ module _ {C I O K : Type 0} (opens : C → Option (I × O) → C → Type 0) (cl
 
   -- one that goes on once its encoder is joined
   ran_on : (due : Bool) (x y x' : LiveAt) (went : Went) → x.behind ≡ GoesOn
-      → MakesOnce opens closes remaining contents leaves is_clean saves fails options due x y goes
+      → MakesOnce opens closes remaining contents leaves is_clean saves fails (run_of options) due x y goes
       → RunsOn opens closes remaining contents leaves is_clean saves fails options GoesOn y x' went → Ran due x x' went
   ran_on due x y x' went on (made, takes, unknown, keeps) (inl (z, (settles, takes_on, stays), turns)) =
       let t = turned opens closes remaining contents leaves is_clean saves fails options.form options.reading.input
@@ -192,7 +192,7 @@ module _ {C I O K : Type 0} (opens : C → Option (I × O) → C → Type 0) (cl
         → went ≡ stopped stop → stop_status stop ≡ 3
 
   ran_out_on : (due : Bool) (x y x' : LiveAt) (end : Result (Unit {0}) RunFault) (went : Went)
-      → MakesOnce opens closes remaining contents leaves is_clean saves fails options due x y goes
+      → MakesOnce opens closes remaining contents leaves is_clean saves fails (run_of options) due x y goes
       → RunsOn opens closes remaining contents leaves is_clean saves fails options (Ends end) y x' went
       → RanOut due x x' end went
   ran_out_on due x y x' end went (made, takes, unknown, keeps) (same, is) =

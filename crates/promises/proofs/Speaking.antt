@@ -26,9 +26,12 @@ use Rattle.line_batches.specs.declared.taking.After.{After}
 use Rattle.line_batches.specs.declared.taking.After.TheVariants.{GoesOn, Ends}
 use Rattle.output_forms.specs.declared.form.Form.{Form}
 use Rattle.sending.specs.Lines.{is_applied}
+use Rattle.sending.specs.declared.account.Account.TheVariants.{Numbered}
+use Rattle.sending.specs.Accounts.{AreHeld as AreHeldBy}
 use Rattle.sending.specs.Forms.{AreHeld, station_in, not_joined_in}
 use Rattle.sending.specs.Station.{MakesOne, MakesIf, JoinedTold}
 use Rattle.sending.specs.Run.{AnswersTold, SettlesLive, MakesOnce, SettlesOnce, marks_in, are_applied, unknown_of}
+use Rattle.sending.specs.Run.{run_of}
 use Rattle.promises.proofs.OverLines.{Live, RunsLive, RunsOn}
 use Rattle.promises.specs.LiveTold.{AreAnswers}
 use Rattle.promises.proofs.LiveAnswering.{replied}
@@ -92,7 +95,8 @@ module _ {C I O K : Type 0} (opens : C → Option (I × O) → C → Type 0) (cl
     pub none : unknown' ≡ 0
 
   settled_told : (form : Form) (x x' : At) (applied applied' : Bool) (unknown unknown' : ℕ) → unknown ≡ 0
-      → SettlesLive opens closes remaining contents leaves is_clean saves fails form x x' applied applied' unknown
+      → SettlesLive opens closes remaining contents leaves is_clean saves fails (Numbered form) x x' applied applied'
+      unknown
       unknown'
       goes → Settled form x x' unknown'
   settled_told form x x' applied applied' unknown unknown' zero_is (inl (idle, same, apply, are, is)) =
@@ -107,7 +111,8 @@ module _ {C I O K : Type 0} (opens : C → Option (I × O) → C → Type 0) (cl
       by ended (ap (λ (p : Progress). p.taken) one.progress) tells are
     where
       by : (ended : Ended) → x'.progress.taken ≡ x.progress.taken
-          → AnswersTold (AreHeld form (x'.progress.taken + 1 - length (marks_in x.runs.sender.server))
+          → AnswersTold (Numbered form) (AreHeldBy (Numbered form)
+          (x'.progress.taken + 1 - length (marks_in x.runs.sender.server))
           (marks_in x.runs.sender.server) (waiting x.runs.sender.server)) x'.runs.sender.server.counts ended
           x.held x'.held goes
           → unknown' ≡ unknown_of (length (marks_in x.runs.sender.server)) ended → Settled form x x' unknown'
@@ -135,7 +140,8 @@ module _ {C I O K : Type 0} (opens : C → Option (I × O) → C → Type 0) (cl
 
   unsettled : (form : Form) (x x' : At) (applied applied' : Bool) (unknown unknown' : ℕ) (stop : KeptStop) → 1 ≤
       unknown'
-      → SettlesLive opens closes remaining contents leaves is_clean saves fails form x x' applied applied' unknown
+      → SettlesLive opens closes remaining contents leaves is_clean saves fails (Numbered form) x x' applied applied'
+      unknown
       unknown'
       (stopped stop) → Unsettled x x' unknown'
   unsettled form x x' applied applied' unknown unknown' stop many (inl (idle, same, apply, are, is)) =
@@ -144,7 +150,8 @@ module _ {C I O K : Type 0} (opens : C → Option (I × O) → C → Type 0) (cl
       by ended (ap (λ (p : Progress). p.taken) one.progress) tells are
     where
       by : (ended : Ended) → x'.progress.taken ≡ x.progress.taken
-          → AnswersTold (AreHeld form (x'.progress.taken + 1 - length (marks_in x.runs.sender.server))
+          → AnswersTold (Numbered form) (AreHeldBy (Numbered form)
+          (x'.progress.taken + 1 - length (marks_in x.runs.sender.server))
           (marks_in x.runs.sender.server) (waiting x.runs.sender.server)) x'.runs.sender.server.counts ended
           x.held x'.held (stopped stop)
           → unknown' ≡ unknown_of (length (marks_in x.runs.sender.server)) ended → Unsettled x x' unknown'
@@ -160,7 +167,8 @@ module _ {C I O K : Type 0} (opens : C → Option (I × O) → C → Type 0) (cl
 
   none_settled : (form : Form) (x x' : At) (applied applied' : Bool) (unknown unknown' : ℕ) (went : Went)
       → x.runs.sender.server.held ≡ []
-      → SettlesLive opens closes remaining contents leaves is_clean saves fails form x x' applied applied' unknown
+      → SettlesLive opens closes remaining contents leaves is_clean saves fails (Numbered form) x x' applied applied'
+      unknown
       unknown'
       went → (x' ≡ x) × (unknown' ≡ unknown) × (went ≡ goes)
   none_settled form x x' applied applied' unknown unknown' went idle (inl (none, same, apply, are, is)) = (
@@ -182,7 +190,8 @@ module _ {C I O K : Type 0} (opens : C → Option (I × O) → C → Type 0) (cl
       (both applied (list_all is_applied told) (sym apply ∙ all_so)).0
 
   settled_applied : (form : Form) (x x' : At) (applied applied' : Bool) (unknown unknown' : ℕ) (went : Went)
-      → SettlesLive opens closes remaining contents leaves is_clean saves fails form x x' applied applied' unknown
+      → SettlesLive opens closes remaining contents leaves is_clean saves fails (Numbered form) x x' applied applied'
+      unknown
       unknown'
       went → applied' ≡ true → applied ≡ true
   settled_applied form x x' applied applied' unknown unknown' went (inl (idle, same, apply, are, is)) all_so =
@@ -220,7 +229,8 @@ module _ {C I O K : Type 0} (opens : C → Option (I × O) → C → Type 0) (cl
       pub taken : y.sends.progress.taken ≡ x.sends.progress.taken
 
     joining : (by : Bool) (x y : LiveAt)
-        → MakesOnce opens closes remaining contents leaves is_clean saves fails options by x y goes → Joining by x y
+        → MakesOnce opens closes remaining contents leaves is_clean saves fails (run_of options) by x y goes
+        → Joining by x y
     joining false x y ((same, apply, is), takes, unknown, keeps) = record {
       text = [];
       is_text = inl refl;
@@ -239,11 +249,13 @@ module _ {C I O K : Type 0} (opens : C → Option (I × O) → C → Type 0) (cl
         }
 
     front : (by : Bool) (x y z : LiveAt) → (by ≡ true → IsIdle x.sends) → x.unknown ≡ 0
-        → MakesOnce opens closes remaining contents leaves is_clean saves fails options by x y goes
-        → SettlesOnce opens closes remaining contents leaves is_clean saves fails options y z goes → Front by x z
+        → MakesOnce opens closes remaining contents leaves is_clean saves fails (run_of options) by x y goes
+        → SettlesOnce opens closes remaining contents leaves is_clean saves fails (run_of options) y z goes
+        → Front by x z
     front false x y z idle none ((same, apply, is), takes, unknown, keeps) (settles, takes_on, stays) =
         let s = settled_told options.form x.sends z.sends y.applied z.applied y.unknown z.unknown (unknown ∙ none)
-        (subst (λ (v : At). SettlesLive opens closes remaining contents leaves is_clean saves fails options.form v
+        (subst (λ (v : At). SettlesLive opens closes remaining contents leaves is_clean saves fails
+        (Numbered options.form) v
         z.sends y.applied
         z.applied y.unknown z.unknown goes) same settles) in record {
           text = s.text;
@@ -286,12 +298,13 @@ module _ {C I O K : Type 0} (opens : C → Option (I × O) → C → Type 0) (cl
       pub applied : is ≡ true → (was ≡ true) × (list_all is_applied codes ≡ true)
 
     stopped_settling : (by : Bool) (x y x' : LiveAt) (stop : KeptStop) → (by ≡ true → IsIdle x.sends) → 1 ≤ x'.unknown
-        → MakesOnce opens closes remaining contents leaves is_clean saves fails options by x y goes
-        → SettlesOnce opens closes remaining contents leaves is_clean saves fails options y x' (stopped stop)
+        → MakesOnce opens closes remaining contents leaves is_clean saves fails (run_of options) by x y goes
+        → SettlesOnce opens closes remaining contents leaves is_clean saves fails (run_of options) y x' (stopped stop)
         → Spoke by x.sends x'.sends x.applied x'.applied x'.unknown
     stopped_settling false x y x' stop idle many ((same, apply, is), takes, unknown, keeps) (settles, takes_on, stays) =
         let u = unsettled options.form x.sends x'.sends y.applied x'.applied y.unknown x'.unknown stop many
-        (subst (λ (v : At). SettlesLive opens closes remaining contents leaves is_clean saves fails options.form v
+        (subst (λ (v : At). SettlesLive opens closes remaining contents leaves is_clean saves fails
+        (Numbered options.form) v
         x'.sends y.applied
         x'.applied y.unknown x'.unknown (stopped stop)) same settles) in record {
           front = [];
@@ -316,7 +329,8 @@ module _ {C I O K : Type 0} (opens : C → Option (I × O) → C → Type 0) (cl
         still settles in absurd (goes_not_stopped stop (sym is))
 
     spoke_on : (by : Bool) (x y x' : LiveAt) (behind : After) (went : Went) → (by ≡ true → IsIdle x.sends)
-        → x.unknown ≡ 0 → MakesOnce opens closes remaining contents leaves is_clean saves fails options by x y goes
+        → x.unknown ≡ 0 → MakesOnce opens closes remaining contents leaves is_clean saves fails (run_of options) by x y
+        goes
         → RunsOn opens closes remaining contents leaves is_clean saves fails options behind y x' went
         → Onward went x'.unknown → Spoke by x.sends x'.sends x.applied x'.applied x'.unknown
     spoke_on by x y x' GoesOn went idle none made (inl (z, settles, turns)) onward =
@@ -370,7 +384,8 @@ module _ {C I O K : Type 0} (opens : C → Option (I × O) → C → Type 0) (cl
         absurd (goes_not_stopped stop (goes_with_none went x'.unknown (unknown ∙ none) onward ∙ is))
 
     on_unknown : (by : Bool) (x y x' : LiveAt) (behind : After) (went : Went) → (by ≡ true → IsIdle x.sends)
-        → x.unknown ≡ 0 → MakesOnce opens closes remaining contents leaves is_clean saves fails options by x y goes
+        → x.unknown ≡ 0 → MakesOnce opens closes remaining contents leaves is_clean saves fails (run_of options) by x y
+        goes
         → RunsOn opens closes remaining contents leaves is_clean saves fails options behind y x' went → goes ≡ went
         → x'.unknown ≡ 0
     on_unknown by x y x' GoesOn went idle none made (inl (z, settles, turns)) on =

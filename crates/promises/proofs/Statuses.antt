@@ -21,6 +21,7 @@ use Rattle.line_batches.specs.Intake.{Intake, FailsToTake}
 use Rattle.line_batches.specs.Batches.{LeavesLine}
 use Rattle.output_forms.specs.declared.form.Form.{Form}
 use Rattle.sending.specs.Forms.{not_joined_in}
+use Rattle.sending.specs.declared.account.Account.TheVariants.{Numbered}
 use Rattle.sending.specs.Run.{AnswersTold, tally_status}
 use Rattle.sending.specs.Station.{JoinedTold}
 
@@ -45,14 +46,15 @@ fault_status : (reason : Outstanding) → stop_status (Run (fault_of reason)) �
 fault_status TriesSpent = refl
 fault_status ConnectionFailed = refl
 
-pub answers_status : (are_told : Settled → List ℕ → Type 0) (counts : ServerCounts) (ended : Ended)
-    (held held' : Option (List ℕ)) (stop : KeptStop) → AnswersTold are_told counts ended held held' (stopped stop)
+pub answers_status : (form : Form) (are_told : Settled → List ℕ → Type 0) (counts : ServerCounts) (ended : Ended)
+    (held held' : Option (List ℕ)) (stop : KeptStop) → AnswersTold (Numbered form) are_told counts ended held held'
+    (stopped stop)
     → stop_status stop ≡ 3
-answers_status are_told counts (Ok settled) held held' stop (told, are, tells) =
+answers_status form are_told counts (Ok settled) held held' stop (told, are, tells) =
     telling_status told held held' stop tells
-answers_status are_told counts (Err (kept.Outstanding reason)) held held' stop (same, is) =
+answers_status form are_told counts (Err (kept.Outstanding reason)) held held' stop (same, is) =
     same_status stop (stop_for counts reason) (stop_for_status counts reason) is
-answers_status are_told counts (Err kept.StateFailed) held held' stop (same, is) =
+answers_status form are_told counts (Err kept.StateFailed) held held' stop (same, is) =
     same_status stop StateFailed refl is
 
 pub joined_status : (form : Form) (lines : List ℕ) (joined : Joined) (held held' : Option (List ℕ)) (stop : KeptStop)

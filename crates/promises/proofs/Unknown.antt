@@ -14,7 +14,8 @@ use Rattle.kept_jobs.proofs.Public.{goes, goes_not_stopped}
 use Rattle.line_batches.specs.declared.taking.After.{After}
 use Rattle.line_batches.specs.declared.taking.After.TheVariants.{GoesOn}
 use Rattle.output_forms.specs.declared.form.Form.{Form}
-use Rattle.sending.specs.Forms.{AreHeld}
+use Rattle.sending.specs.declared.account.Account.TheVariants.{Numbered}
+use Rattle.sending.specs.Accounts.{AreHeld}
 use Rattle.sending.specs.Run.{AnswersTold, RepliesOf, SendsSome, SettlesLive, marks_in, unknown_of}
 use Rattle.promises.proofs.OverLines.{Live, Turn, GoesOnFor}
 
@@ -29,7 +30,8 @@ module _ {C I O K : Type 0} (opens : C → Option (I × O) → C → Type 0) (cl
 
   pub none_unknown : (batch : List (List ℕ)) (x x' : At) (applied applied' : Bool) (unknown unknown' : ℕ) (went : Went)
       → unknown ≡ 0
-      → SendsSome opens closes remaining contents leaves is_clean saves fails form batch x x' applied applied' unknown
+      → SendsSome opens closes remaining contents leaves is_clean saves fails (Numbered form) batch x x' applied
+      applied' unknown
       unknown' went → goes ≡ went → unknown' ≡ 0
   none_unknown batch x x' applied applied' unknown unknown' went zero_is (inl (none, same, apply, are, is)) on =
       are ∙ zero_is
@@ -37,7 +39,7 @@ module _ {C I O K : Type 0} (opens : C → Option (I × O) → C → Type 0) (cl
       (inr (some, (ended, one, tells, apply, are))) on = by ended tells are
     where
       by : (ended : Ended)
-          → AnswersTold (RepliesOf form x'.progress.taken
+          → AnswersTold (Numbered form) (RepliesOf (Numbered form) x'.progress.taken
           (waiting (submitted_all x.runs batch).sender.server)) x'.runs.sender.server.counts ended x.held
           x'.held went
           → unknown' ≡ unknown_of (length batch) ended → unknown' ≡ 0
@@ -47,14 +49,16 @@ module _ {C I O K : Type 0} (opens : C → Option (I × O) → C → Type 0) (cl
       by (Err kept.StateFailed) (same, is) are = absurd (goes_not_stopped StateFailed (on ∙ is))
 
   pub none_unsettled : (x x' : At) (applied applied' : Bool) (unknown unknown' : ℕ) → unknown ≡ 0
-      → SettlesLive opens closes remaining contents leaves is_clean saves fails form x x' applied applied' unknown
+      → SettlesLive opens closes remaining contents leaves is_clean saves fails (Numbered form) x x' applied applied'
+      unknown
       unknown' goes → unknown' ≡ 0
   none_unsettled x x' applied applied' unknown unknown' zero_is (inl (idle, same, apply, are, is)) = are ∙ zero_is
   none_unsettled x x' applied applied' unknown unknown' zero_is (inr (some, (ended, one, tells, apply, are))) =
       by ended tells are
     where
       by : (ended : Ended)
-          → AnswersTold (AreHeld form (x'.progress.taken + 1 - length (marks_in x.runs.sender.server))
+          → AnswersTold (Numbered form) (AreHeld (Numbered form)
+          (x'.progress.taken + 1 - length (marks_in x.runs.sender.server))
           (marks_in x.runs.sender.server) (waiting x.runs.sender.server)) x'.runs.sender.server.counts ended
           x.held x'.held goes
           → unknown' ≡ unknown_of (length (marks_in x.runs.sender.server)) ended → unknown' ≡ 0

@@ -10,10 +10,13 @@ pub use Rattle.rds_groups.specs.Damage
 pub mod Station
 pub mod Acts
 pub mod CrashLaws
+pub mod DeviceLives
+pub mod DeviceRuns
 pub mod Taken
 pub mod Left
 pub mod LiveTold
 pub mod LiveLaws
+pub mod SendLaws
 pub mod StationTold
 pub mod Made
 pub mod Alike

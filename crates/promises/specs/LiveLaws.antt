@@ -5,6 +5,7 @@ use Rattle.std.specs.Io.KnownBytes.{Appends}
 use Rattle.uecp_elements.specs.declared.code.Code.{Code}
 use Rattle.uecp_link.specs.Server.{ServerState}
 use Rattle.uecp_net.specs.Keeping.{KeptServer, IsKept}
+use Rattle.kept_jobs.specs.Stops.{Went}
 use Rattle.kept_jobs.specs.ServerRun.{Standing}
 use Rattle.kept_jobs.specs.ServerKept.{HasTaken}
 use Rattle.line_feed.specs.declared.feed.Next.{Next}
@@ -12,13 +13,33 @@ use Rattle.line_feed.specs.declared.feed_fault.FeedFault.{FeedFault}
 use Rattle.line_feed.specs.declared.feed_fault.NotKept.{NotKept}
 use Rattle.line_feed.specs.Lines.{Refusal}
 use Rattle.line_batches.specs.declared.intake.Given.{Given}
+use Rattle.line_batches.specs.declared.taking.After.{After}
 use Rattle.line_batches.specs.Intake.{FeedIntake, messages_in}
 use Rattle.sending.specs.declared.options.LiveOptions.{LiveOptions}
-use Rattle.sending.specs.Run.{Lives, FromFeed}
+use Rattle.sending.specs.declared.options.RunOptions.{RunOptions}
+use Rattle.sending.specs.Run.{Live, LivesFrom, Lives}
+use Rattle.sending.specs.Sources.{FromFeed}
 use Rattle.promises.specs.Taken.{TakesSome, TakesAll, AreBatches}
 use Rattle.promises.specs.Left.{OutlivesLive}
 use Rattle.promises.specs.LiveTold.{TellsAll, IsStatusOf}
 use Rattle.notices.specs.Told.{Told}
+
+-- ---- Wherever batches come from.
+
+module _ {T C I O K : Type 0} (takes : (size : ℕ) → (messages : List (List ℕ)) → After → T → T → Type 0)
+    (opens : C → Option (I × O) → C → Type 0) (closes : C → I → O → C → Type 0)
+    (remaining : I → Option (List ℕ)) (contents : O → Option (List ℕ)) (leaves : K → KeptServer → Type 0)
+    (is_clean : K → Type 0) (saves fails : K → KeptServer → K → Type 0) where
+  -- However a run ended it took its batches one after another, each from where the one before ended, and between two of
+  -- them nothing was taken.
+  abbrev pub InBatches : Type 0
+  InBatches =
+      (options : RunOptions) (c c' : C) (x : Live T ServerState K) (k' : K) (held' : Option (List ℕ)) (taken : T)
+      (applied : Bool) (went : Went) →
+      LivesFrom takes opens closes remaining contents leaves is_clean saves fails options c c' x k' held' taken applied
+      went → (batches : List (List (List ℕ))) × AreBatches (takes options.size) batches x.takes taken
+
+-- ---- Where they come from a feed.
 
 -- the status of a run that came to its end
 abbrev pub IsDone : (status : ℕ) → Type 0
@@ -86,6 +107,7 @@ module _ {D C I O K : Type 0} (unread : D → Option (List ℕ))
       feed
       feed' said said' status →
       (batches : List (List (List ℕ))) × (last : FeedIntake D)
-      × AreBatches (FromFeed unread takes says passes options.reading) batches
+      × AreBatches
+      (FromFeed unread takes says passes options.reading.input options.reading.strict options.reading.size) batches
       (record { feed = feed; lines = options.lines_before; refused = false; said = said }) last
       × (feed' ≡ last.feed)

@@ -1,8 +1,9 @@
 //! What a whole run leaves of a server whose lines come as they like, with its state kept: which lines were taken, and
 //! what a crash leaves of the server.
-ghost use Rattle.promises.specs.LiveLaws.{DoneIsKept, WhatACrashLeaves, ToldIsTaken, TakenInBatches};
+ghost use Rattle.promises.specs.LiveLaws.{DoneIsKept, WhatACrashLeaves, ToldIsTaken, TakenInBatches, InBatches};
 
 use line_feed::Feed;
+use sending::Source;
 use uecp_encoder::Keep;
 use uecp_net::{Connections, SavedServer};
 
@@ -56,5 +57,14 @@ pub fn told_is_taken<F: Feed, K: Keep<SavedServer>, C: Connections>()
 pub fn taken_in_batches<F: Feed, K: Keep<SavedServer>, C: Connections>()
     ensures { TakenInBatches F.remaining F.takes F.says F.passes C.opens C.closes C.Input.remaining C.Output.contents
         K.leaves
+        K.is_clean K.saves K.fails }
+{}
+
+/// However a run ended, wherever its batches come from, as messages that are all there, it took them one after another,
+/// each from where the one before ended, and between two of them nothing was taken.
+///
+/// It has no premise.
+pub fn any_in_batches<S: Source, K: Keep<SavedServer>, C: Connections>()
+    ensures { (how : S.How) → InBatches (S.takes how) C.opens C.closes C.Input.remaining C.Output.contents K.leaves
         K.is_clean K.saves K.fails }
 {}

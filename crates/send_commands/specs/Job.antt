@@ -20,7 +20,7 @@ use Rattle.sending.specs.Run.{Lives}
 use Rattle.commands.specs.declared.send_options.SendOptions.{SendOptions}
 use Rattle.commands.specs.declared.send_options.TitleOptions.{TitleOptions}
 use Rattle.line_batches.specs.declared.intake.Input.{Input}
-use Rattle.line_batches.specs.declared.intake.Input.TheVariants.{Phrases, Titles as TitlesOf}
+use Rattle.line_batches.specs.declared.intake.Input.TheVariants.{Phrases, Fitted, Titles as TitlesOf}
 use Rattle.send_commands.specs.LiveIn.{LivesIn, HasNoState}
 
 -- The numbers of a job that can be done.
@@ -28,12 +28,14 @@ pub record IsSendable (job : SendOptions) : Type 0 where
   pub some : 1 ≤ job.window
   pub most : job.window ≤ 8
 
--- Its lines are phrases with the names of its region; or titles, as its options have them.
+-- Its lines are phrases with the names of its region; or titles, as its options have them. They are made to fit where
+-- that is asked for.
 abbrev pub IsInput : SendOptions → Input → Type 0
-IsInput job (Phrases region) = (job.titles ≡ None) × (region ≡ job.region)
+IsInput job (Phrases region) = (job.titles ≡ None) × (job.fit ≡ false) × (region ≡ job.region)
+IsInput job (Fitted region) = (job.titles ≡ None) × (job.fit ≡ true) × (region ≡ job.region)
 IsInput job (TitlesOf titles) =
     (options : TitleOptions) × (job.titles ≡ Some options) × (titles.prefix.now ≡ options.prefix.items)
-    × (titles.service ≡ options.service) × (titles.fit ≡ options.fit)
+    × (titles.service ≡ options.service) × (titles.fit ≡ job.fit)
 
 -- The options of its run are those of the job; connections are made again as often as they can be counted, also where
 -- one is silent.

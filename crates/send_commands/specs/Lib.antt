@@ -2,4 +2,5 @@
 pub mod Passing
 pub mod LiveIn
 pub mod Job
+pub mod Ended
 pub mod OverTcp

@@ -19,6 +19,7 @@ use Rattle.live_edges.specs.declared.patience.Patience.{Patience}
 use Rattle.commands.specs.declared.send_options.SendOptions.{SendOptions}
 use Rattle.send_commands.specs.declared.ledger.LedgerFault.{LedgerFault}
 use Rattle.send_commands.specs.Passing.{Asks, Kept, PassesTo, Takes, TellsFault, not_kept_line}
+use Rattle.send_commands.specs.Ended.{TellsEnd}
 use Rattle.send_commands.specs.Job.{HasSentLive}
 
 -- A limit of so many seconds; none where that is 0.
@@ -111,10 +112,19 @@ module _ {A J O K : Type 0} (answers : A → (milliseconds : Option ℕ) → Boo
     (gives : (path : List ℕ) → ServerState → Progress → K → Type 0) (refuses : List ℕ → StateFault → Type 0)
     (ends : K → Result (Unit {0}) StateFault → Type 0) (leaves : K → KeptServer → Type 0) (is_clean : K → Type 0)
     (saves fails : K → KeptServer → K → Type 0) where
-  abbrev pub HasSentTcp : SendOptions → (arrival : A) → (told unread held held' : Option (List ℕ)) → (said said' : Told)
+  abbrev pub HasRunTcp : SendOptions → (arrival : A) → (told unread held held' : Option (List ℕ)) → (said said' : Told)
       → (status : ℕ)
       → Type 0
-  HasSentTcp =
+  HasRunTcp =
       HasSentOver {I = Heard J} {O = O} answers (λ d given d'. OpensAtLast DialsAgain d given d')
       (λ d input output d'. GivesBack (λ c _ _ c'. c' ≡ c) d input output d') (λ heard. remaining heard.reader) contents
       gives refuses ends leaves is_clean saves fails
+
+  -- So; and then, in JSON, it was told with which status it ended, also where it had not begun.
+  abbrev pub HasSentTcp : SendOptions → (arrival : A) → (told unread held held' : Option (List ℕ)) → (said said' : Told)
+      → (status : ℕ)
+      → Type 0
+  HasSentTcp job arrival told unread held held' said said' status =
+      (between : Option (List ℕ)) × (run : Told)
+      × HasRunTcp job arrival told unread held between said run status
+      × TellsEnd job.form status between held' run said'

@@ -7,6 +7,7 @@
 //!   it as an object ([`RefusalObjects`]).
 #![tactic(auto)]
 
+mod ended;
 mod ledger;
 mod live_in;
 mod over_tcp;
@@ -21,4 +22,3 @@ pub use over_tcp::{Dialling, run_send_over_tcp};
 pub use passing::Passing;
 pub use refusals::RefusalObjects;
 pub use run::run_send;
-pub use sending::Teller;

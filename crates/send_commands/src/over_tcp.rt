@@ -3,9 +3,10 @@ ghost use Rattle.std.specs.Prelude.{◌≡◌, ◌≤◌, ◌++◌, [], None, tr
 ghost use Rattle.notices.specs.Told.{Says};
 ghost use Rattle.std.specs.String.{string_bytes};
 ghost use Rattle.send_commands.specs.Job.{IsSendable};
-ghost use Rattle.send_commands.specs.OverTcp.{HasNoLedger, HasSentTcp, DialsLive, limit_of};
+ghost use Rattle.send_commands.specs.OverTcp.{HasNoLedger, HasRunTcp, HasSentTcp, DialsLive, limit_of};
 ghost use Rattle.send_commands.specs.Passing.{TellsFault};
 
+use crate::ended::tell_ended;
 use crate::ledger::{LedgerFault, LedgerFile, open_ledger};
 use crate::passing::Passing;
 use crate::refusals::RefusalObjects;
@@ -30,6 +31,8 @@ use uecp_text::RunFault;
 
 /// What the connections of `send` are dialled with, and where its state is kept.
 pub struct Dialling<'a, N, S> {
+    /// Where memory comes from.
+    pub alloc: Global,
     /// The network, the clock and the files.
     pub net: &'a N,
     /// What has the connection that is there, so that an arrival can look after it.
@@ -38,9 +41,10 @@ pub struct Dialling<'a, N, S> {
     pub states: &'a S,
 }
 
-/// Does the job over TCP with the lines of a reader, and answers the exit status: that of [`run_send`], or 2 where a
-/// line of the station's file is refused, and 3 where that can't be read. What is said of the connection goes to
-/// `notices`; lines that are refused are told on `refusals` as objects, where the job tells in JSON.
+/// Does the job over TCP with the lines of a reader, tells in JSON how it ended, and answers the exit status: that of
+/// [`run_send`], or 2 where a line of the station's file is refused, and 3 where that can't be read. What is said of
+/// the connection goes to `notices`; lines that are refused are told on `refusals` as objects, where the job tells in
+/// JSON.
 pub fn run_send_over_tcp<
     'a,
     R: Read,
@@ -50,20 +54,66 @@ pub fn run_send_over_tcp<
     M: Write,
     N: Net<Stream = TcpStream> + Clock + Files,
     S: OpenStates,
-    T: Clock,
     Q: Write,
 >(
     job: &'a SendOptions,
     reader: &mut R,
     arrival: A,
-    teller: &mut Teller<'_, W, T>,
+    writer: &mut W,
     errors: &mut NoticesTo<E>,
     dialling: Dialling<'a, N, S>,
     notices: &'a mut M,
     refusals: &'a mut Q,
 ) -> u8
     requires { IsSendable job.now }
-    ensures sent { HasSentTcp A.answers ⟦<TcpStream as Read>⟧.remaining ⟦<TcpStream as Write>⟧.contents
+    ensures { HasSentTcp A.answers ⟦<TcpStream as Read>⟧.remaining ⟦<TcpStream as Write>⟧.contents
+        (S.gives_server dialling.entry.states.now) (S.refuses_server dialling.entry.states.now)
+        (S.closes_server dialling.entry.states.now)
+        S.ServerKeeper.leaves S.ServerKeeper.is_clean S.ServerKeeper.saves S.ServerKeeper.fails job.now
+        arrival (M.contents notices.old) (R.remaining reader.old) (W.contents writer.old) (W.contents writer.new)
+        errors.old errors.new result }
+{
+    let alloc = dialling.alloc;
+    let clock = dialling.net;
+    let mut teller = Teller::new(alloc, clock, writer);
+    let status = run_over_tcp(
+        job,
+        reader,
+        arrival,
+        &mut teller,
+        errors,
+        dialling,
+        notices,
+        refusals,
+    );
+    let writer = teller.finish();
+    tell_ended(alloc, clock, job.form, status, writer, errors);
+    status
+}
+
+/// Does the job so.
+fn run_over_tcp<
+    'a,
+    R: Read,
+    A: Arrival + Drop,
+    W: Write,
+    E: Write,
+    M: Write,
+    N: Net<Stream = TcpStream> + Clock + Files,
+    S: OpenStates,
+    Q: Write,
+>(
+    job: &'a SendOptions,
+    reader: &mut R,
+    arrival: A,
+    teller: &mut Teller<'_, W, N>,
+    errors: &mut NoticesTo<E>,
+    dialling: Dialling<'a, N, S>,
+    notices: &'a mut M,
+    refusals: &'a mut Q,
+) -> u8
+    requires { IsSendable job.now }
+    ensures sent { HasRunTcp A.answers ⟦<TcpStream as Read>⟧.remaining ⟦<TcpStream as Write>⟧.contents
         (S.gives_server dialling.entry.states.now) (S.refuses_server dialling.entry.states.now)
         (S.closes_server dialling.entry.states.now)
         S.ServerKeeper.leaves S.ServerKeeper.is_clean S.ServerKeeper.saves S.ServerKeeper.fails job.now
@@ -71,8 +121,12 @@ pub fn run_send_over_tcp<
         errors.new result }
     ensures writer { teller.new.writer ≡ teller.old.writer }
 {
-    let Dialling { net, watch, states } = dialling;
-    let alloc = teller.alloc();
+    let Dialling {
+        alloc,
+        net,
+        watch,
+        states,
+    } = dialling;
     match station_of(alloc, job, net, errors) {
         Err(fault) => fail_station(&fault, errors),
         Ok(station) => {

@@ -87,11 +87,12 @@ fn input_of(job: &SendOptions) -> Input<'_>
     ensures { IsInput job.now result }
 {
     match &job.titles {
+        None if job.fit => Input::Fitted(job.region),
         None => Input::Phrases(job.region),
         Some(options) => Input::Titles(Titles {
             prefix: options.prefix.as_slice(),
             service: options.service,
-            fit: options.fit,
+            fit: job.fit,
         }),
     }
 }

@@ -6,8 +6,7 @@ use Rattle.uecp_link.specs.Server.{ServerState}
 use Rattle.uecp_net.specs.Keeping.{KeptServer}
 use Rattle.kept_jobs.specs.Stops.{Went}
 use Rattle.line_batches.specs.declared.taking.After.{After}
-use Rattle.line_batches.specs.declared.taking.Reading.{Reading}
-use Rattle.sending.specs.declared.options.LiveOptions.{LiveOptions}
+use Rattle.sending.specs.declared.options.RunOptions.{RunOptions}
 use Rattle.sending.specs.Run.{Live, RunsAgain, RunsFor, IsLast}
 use Rattle.sending.specs.Lines.{unknown_line, unknown_lines}
 
@@ -18,10 +17,23 @@ unknown_on first zero some = absurd (omega (arith, some))
 unknown_on first (suc n) some =
     ap (λ m. unknown_line first ++ unknown_lines (first + 1) m) (let same : n ≡ suc n - 1 = omega arith in same)
 
-module _ {T C I O K : Type 0} (takes : Reading → List (List ℕ) → After → T → T → Type 0)
+-- another sender by what takes the same
+pub same_again : {H T C I O K : Type 0} (takes : H → ℕ → List (List ℕ) → After → T → T → Type 0)
     (opens : C → Option (I × O) → C → Type 0) (closes : C → I → O → C → Type 0)
     (remaining : I → Option (List ℕ)) (contents : O → Option (List ℕ)) (leaves : K → KeptServer → Type 0)
-    (is_clean : K → Type 0) (saves fails : K → KeptServer → K → Type 0) (options : LiveOptions) (n : ℕ) where
+    (is_clean : K → Type 0) (saves fails : K → KeptServer → K → Type 0) (options : RunOptions) (h h' : H) → h ≡ h'
+    → (address : ℕ) (c c' : C) (x x' : Live T ServerState K) (went : Went)
+    → RunsAgain (takes h) opens closes remaining contents leaves is_clean saves fails options address c c' x x' went
+    → RunsAgain (takes h') opens closes remaining contents leaves is_clean saves fails options address c c' x x' went
+same_again takes opens closes remaining contents leaves is_clean saves fails options h h' same address c c' x x' went
+    again =
+    subst (λ i. RunsAgain (takes i) opens closes remaining contents leaves is_clean saves fails options address c c' x
+    x' went) same again
+
+module _ {T C I O K : Type 0} (takes : ℕ → List (List ℕ) → After → T → T → Type 0)
+    (opens : C → Option (I × O) → C → Type 0) (closes : C → I → O → C → Type 0)
+    (remaining : I → Option (List ℕ)) (contents : O → Option (List ℕ)) (leaves : K → KeptServer → Type 0)
+    (is_clean : K → Type 0) (saves fails : K → KeptServer → K → Type 0) (options : RunOptions) (n : ℕ) where
   abbrev All : (due : Bool) → (n : ℕ) → (c c' : C) → (x x' : Live T ServerState K) → Went → Type 0
   All = RunsFor takes opens closes remaining contents leaves is_clean saves fails options
 

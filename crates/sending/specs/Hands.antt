@@ -1,12 +1,17 @@
 -- What was lent to a run (profile).
-use Rattle.std.specs.Prelude.{ℕ, List, Option}
+use Rattle.std.specs.Prelude.{ℕ, Bool, List, Option}
+use Rattle.line_batches.specs.declared.intake.Input.{Input}
 use Rattle.line_batches.specs.Intake.{FeedIntake}
 use Rattle.notices.specs.Told.{Told}
 
--- Lines as they come: where their taking stands, and the loans of the feed that they come from and of where it is told
--- of those that are refused.
+-- Lines as they come: what they are, and whether the run ends at one that is refused; where their taking stands; the
+-- batch that was taken last; and the loans of the feed that they come from and of where it is told of those that are
+-- refused.
 pub record Taking (D : Type 0) : Type 0 where
+  pub input : Input
+  pub strict : Bool
   pub at : FeedIntake D
+  pub batch : List (List ℕ)
   pub feed : ℕ
   pub errors : ℕ
 

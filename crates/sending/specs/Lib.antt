@@ -2,8 +2,10 @@
 pub mod Lines
 pub mod Objects
 pub mod Forms
+pub mod Accounts
 pub mod Sent
 pub mod Beginning
 pub mod Station
+pub mod Sources
 pub mod Hands
 pub mod Run

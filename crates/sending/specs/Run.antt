@@ -1,4 +1,4 @@
--- What a server does whose lines come as they like, with its state kept, and how it ends (profile).
+-- What a server does whose state is kept, wherever its batches come from, and how it ends (profile).
 use Rattle.std.specs.Prelude.{◌≡◌, ◌≢◌, ◌⊎◌, ℕ, zero, suc, ◌+◌, ◌-◌, ◌^◌, ◌≤◌, Bool, true, false, ◌&&◌, List, []}
 use Rattle.std.specs.Prelude.{length, map, Option, Result, Ok, Err, if◌then◌else◌}
 use Rattle.std.specs.List.{list_all}
@@ -19,11 +19,15 @@ use Rattle.kept_jobs.specs.Stops.{Went, TellsKept, Then, stop_for, stop_status, 
 use Rattle.kept_jobs.specs.ServerRun.{Standing, SettlesOne, SendsOne, sending, is_due}
 use Rattle.kept_jobs.specs.ServerRun.{not_joined}
 use Rattle.output_forms.specs.declared.form.Form.{Form}
+use Rattle.sending.specs.declared.account.Account.{Account}
+use Rattle.sending.specs.declared.account.Account.TheVariants.{Numbered}
 use Rattle.sending.specs.declared.course.Course.{Course}
 use Rattle.sending.specs.declared.options.LiveOptions.{LiveOptions}
-use Rattle.sending.specs.Hands.{Taking, Telling}
+use Rattle.sending.specs.declared.options.RunOptions.{RunOptions}
+use Rattle.sending.specs.Hands.{Telling}
 use Rattle.sending.specs.Lines.{is_applied}
-use Rattle.sending.specs.Forms.{AreReplies, AreHeld, unknown_in}
+use Rattle.sending.specs.Forms.{unknown_in}
+use Rattle.sending.specs.Accounts.{form_of, AreReplies, AreHeld, OutstandingTold}
 use Rattle.sending.specs.Beginning.{TellsTaken, BeginsAnewIf}
 use Rattle.sending.specs.Station.{MakesIf}
 use Rattle.line_batches.specs.declared.taking.After.{After}
@@ -32,9 +36,8 @@ use Rattle.line_feed.specs.declared.feed.Next.{Next}
 use Rattle.line_feed.specs.declared.feed_fault.FeedFault.{FeedFault}
 use Rattle.line_feed.specs.declared.feed_fault.NotKept.{NotKept}
 use Rattle.line_feed.specs.Lines.{Refusal}
-use Rattle.line_batches.specs.declared.taking.Reading.{Reading}
 use Rattle.line_batches.specs.Intake.{FeedIntake}
-use Rattle.line_batches.specs.Batches.{TakesBatch}
+use Rattle.sending.specs.Sources.{FromFeed}
 use Rattle.notices.specs.Told.{Told, Says}
 
 -- ---- Where a run stands: what it sends, and where that is kept and told; where the taking of its batches stands;
@@ -56,10 +59,10 @@ stands runs keeper course telling = record {
   held = telling.held;
 }
 
-abbrev pub live : {D S K : Type 0} → S → K → Taking D → Telling → Course → Live (FeedIntake D) S K
-live runs keeper taking telling course = record {
+abbrev pub live : {T S K : Type 0} → S → K → T → Telling → Course → Live T S K
+live runs keeper taken telling course = record {
   sends = stands runs keeper course telling;
-  takes = taking.at;
+  takes = taken;
   applied = course.applied;
   unknown = course.unknown;
   behind = course.behind;
@@ -78,18 +81,20 @@ behind_of (Err stop) after before = after
 -- ---- One batch is sent.
 
 -- What is told of messages that were settled so, and how the run goes on: such lines where they are acknowledged. Where
--- they are not nothing is told, and it stops.
-abbrev pub AnswersTold : (are_told : Settled → List ℕ → Type 0) → ServerCounts → Ended
+-- they are outstanding that is told, or nothing, and it stops. Where a save failed nothing is told, and it stops.
+abbrev pub AnswersTold : Account → (are_told : Settled → List ℕ → Type 0) → ServerCounts → Ended
     → (held held' : Option (List ℕ)) → Went → Type 0
-AnswersTold are_told counts (Ok settled) held held' went =
+AnswersTold account are_told counts (Ok settled) held held' went =
     (told : List ℕ) × are_told settled told × TellsKept told (Ok tt) held held' went
-AnswersTold are_told counts (Err (kept.Outstanding reason)) held held' went =
-    (held' ≡ held) × (went ≡ Err (stop_for counts reason))
-AnswersTold are_told counts (Err kept.StateFailed) held held' went = (held' ≡ held) × (went ≡ Err StateFailed)
+AnswersTold account are_told counts (Err (kept.Outstanding reason)) held held' went =
+    OutstandingTold account (Err (stop_for counts reason)) held held' went
+AnswersTold account are_told counts (Err kept.StateFailed) held held' went =
+    (held' ≡ held) × (went ≡ Err StateFailed)
 
 -- the line of each of these messages, the last of which has this number, each sent under its counter, by its own reply
-abbrev pub RepliesOf : Form → (last : ℕ) → (sent : List (ℕ × List ℕ)) → Settled → (told : List ℕ) → Type 0
-RepliesOf form last sent settled told = AreReplies form (last + 1 - length settled.codes.items) sent settled told
+abbrev pub RepliesOf : Account → (last : ℕ) → (sent : List (ℕ × List ℕ)) → Settled → (told : List ℕ) → Type 0
+RepliesOf account last sent settled told =
+    AreReplies account (last + 1 - length settled.codes.items) sent settled told
 
 -- of the messages that a server holds, the oldest first, whether each is marked
 abbrev pub marks_in : ServerState → List Bool
@@ -120,14 +125,6 @@ EndsAs went applied refused said said' status =
     ((went ≡ Ok tt) × (status ≡ tally_status refused applied) × (said' ≡ said))
     ⊎ ((stop : KeptStop) × (went ≡ Err stop) × (status ≡ stop_status stop) × Says said said' (stop_lines stop))
 
--- ---- Where batches come from: what is taken, and what comes after it. So from a feed of lines.
-abbrev pub FromFeed : {D : Type 0} → (unread : D → Option (List ℕ))
-    → (takes : D → Result Next FeedFault → List ℕ → D → Type 0) → (says : D → Bool → D → Type 0)
-    → (passes : D → Refusal → Result (Unit {0}) NotKept → D → Type 0) → Reading
-    → (messages : List (List ℕ)) → After → (x x' : FeedIntake D) → Type 0
-FromFeed unread takes says passes reading = TakesBatch unread takes says passes reading.input reading.size
-    reading.strict
-
 -- ---- What is outstanding is given up.
 
 -- A new server is saved, not joined, in place of one of which so many messages are outstanding; and then each of
@@ -146,13 +143,14 @@ pub record Renews {K : Type 0} (leaves : K → KeptServer → Type 0) (is_clean 
 
 module _ {C I O K : Type 0} (opens : C → Option (I × O) → C → Type 0) (closes : C → I → O → C → Type 0)
     (remaining : I → Option (List ℕ)) (contents : O → Option (List ℕ)) (leaves : K → KeptServer → Type 0)
-    (is_clean : K → Type 0) (saves fails : K → KeptServer → K → Type 0) (form : Form) where
+    (is_clean : K → Type 0) (saves fails : K → KeptServer → K → Type 0) (account : Account) where
   -- These messages were sent, as `send_kept` says, and then that was told.
   abbrev pub SendsBatch : (messages : List (List ℕ)) → (x x' : Standing (SenderOver C I O) K)
       → (applied applied' : Bool) → (unknown' : ℕ) → Went → Type 0
   SendsBatch messages x x' applied applied' unknown' went =
       (ended : Ended) × SendsOne opens closes remaining contents leaves is_clean saves fails messages ended x x'
-      × AnswersTold (RepliesOf form x'.progress.taken (waiting (submitted_all x.runs messages).sender.server))
+      × AnswersTold account (RepliesOf account x'.progress.taken
+      (waiting (submitted_all x.runs messages).sender.server))
       x'.runs.sender.server.counts ended x.held x'.held went
       × (applied' ≡ applied && are_applied ended) × (unknown' ≡ unknown_of (length messages) ended)
 
@@ -170,7 +168,7 @@ module _ {C I O K : Type 0} (opens : C → Option (I × O) → C → Type 0) (cl
       ((x.runs.sender.server.held ≡ []) × (x' ≡ x) × (applied' ≡ applied) × (unknown' ≡ unknown) × (went ≡ Ok tt))
       ⊎ ((x.runs.sender.server.held ≢ []) × ((ended : Ended)
       × SettlesOne opens closes remaining contents leaves is_clean saves fails ended x x'
-      × AnswersTold (AreHeld form (x'.progress.taken + 1 - length (marks_in x.runs.sender.server))
+      × AnswersTold account (AreHeld account (x'.progress.taken + 1 - length (marks_in x.runs.sender.server))
       (marks_in x.runs.sender.server) (waiting x.runs.sender.server))
       x'.runs.sender.server.counts ended x.held x'.held went
       × (applied' ≡ applied && are_applied ended)
@@ -180,13 +178,13 @@ module _ {C I O K : Type 0} (opens : C → Option (I × O) → C → Type 0) (cl
 module _ {T C I O K : Type 0} (takes : (messages : List (List ℕ)) → After → T → T → Type 0)
     (opens : C → Option (I × O) → C → Type 0) (closes : C → I → O → C → Type 0)
     (remaining : I → Option (List ℕ)) (contents : O → Option (List ℕ)) (leaves : K → KeptServer → Type 0)
-    (is_clean : K → Type 0) (saves fails : K → KeptServer → K → Type 0) (form : Form) where
+    (is_clean : K → Type 0) (saves fails : K → KeptServer → K → Type 0) (account : Account) where
   -- One turn: a batch was taken, and then sent where it has a message; and this comes after it. Where the run stops
   -- there, it is what comes behind what is outstanding.
   pub record Turn (x x' : Live T (SenderOver C I O) K) (after : After) (went : Went) : Type 0 where
     pub messages : List (List ℕ)
     pub taken : takes messages after x.takes x'.takes
-    pub sends : SendsSome opens closes remaining contents leaves is_clean saves fails form messages x.sends x'.sends
+    pub sends : SendsSome opens closes remaining contents leaves is_clean saves fails account messages x.sends x'.sends
         x.applied x'.applied x.unknown x'.unknown went
     pub behind : x'.behind ≡ behind_of went after x.behind
 
@@ -241,49 +239,49 @@ module _ {T C I O K : Type 0} (opens : C → Option (I × O) → C → Type 0) (
     (remaining : I → Option (List ℕ)) (contents : O → Option (List ℕ)) (leaves : K → KeptServer → Type 0)
     (is_clean : K → Type 0) (saves fails : K → KeptServer → K → Type 0) where
   -- The encoder was joined and the station made, where the encoder is to be joined.
-  abbrev pub MakesOnce : LiveOptions → (due : Bool) → (x x' : Live T (SenderOver C I O) K) → Went → Type 0
+  abbrev pub MakesOnce : RunOptions → (due : Bool) → (x x' : Live T (SenderOver C I O) K) → Went → Type 0
   MakesOnce options due x x' went =
-      MakesIf opens closes remaining contents leaves is_clean saves fails options.form options.reading.size
-      options.station.now due x.sends x'.sends x.applied x'.applied went
+      MakesIf opens closes remaining contents leaves is_clean saves fails (form_of options.account)
+      options.size options.station.now due x.sends x'.sends x.applied x'.applied went
       × (x'.takes ≡ x.takes) × (x'.unknown ≡ x.unknown) × (x'.behind ≡ x.behind)
 
   -- What waits was settled.
-  abbrev pub SettlesOnce : LiveOptions → (x x' : Live T (SenderOver C I O) K) → Went → Type 0
+  abbrev pub SettlesOnce : RunOptions → (x x' : Live T (SenderOver C I O) K) → Went → Type 0
   SettlesOnce options x x' went =
-      SettlesLive opens closes remaining contents leaves is_clean saves fails options.form x.sends x'.sends x.applied
+      SettlesLive opens closes remaining contents leaves is_clean saves fails options.account x.sends x'.sends x.applied
       x'.applied x.unknown x'.unknown went
       × (x'.takes ≡ x.takes) × (x'.behind ≡ x.behind)
 
   -- No sender runs after these: no message is outstanding with each try spent, or an encoder is not taken for a new
   -- one, or 2^63 messages were taken, or 2^59 ran.
-  abbrev pub IsLast : LiveOptions → (again : ℕ) → Live T ServerState K → Type 0
+  abbrev pub IsLast : RunOptions → (again : ℕ) → Live T ServerState K → Type 0
   IsLast options again x =
       (x.unknown ≡ 0) ⊎ (options.rejoin ≡ false) ⊎ (2 ^ 63 ≤ x.sends.progress.taken) ⊎ (again ≡ 2 ^ 59)
 
--- ---- One sender, of batches that are taken so for what is to be read.
-module _ {T C I O K : Type 0} (takes : Reading → (messages : List (List ℕ)) → After → T → T → Type 0)
+-- ---- One sender, of batches of so many messages at most that are taken so.
+module _ {T C I O K : Type 0} (takes : (size : ℕ) → (messages : List (List ℕ)) → After → T → T → Type 0)
     (opens : C → Option (I × O) → C → Type 0) (closes : C → I → O → C → Type 0)
     (remaining : I → Option (List ℕ)) (contents : O → Option (List ℕ)) (leaves : K → KeptServer → Type 0)
     (is_clean : K → Type 0) (saves fails : K → KeptServer → K → Type 0) where
   -- What a sender does once its encoder is joined: it settles what waits, and then makes its turns. Or the run ends so,
   -- which was found behind messages that were outstanding: nothing is settled, and no line is taken.
-  abbrev pub RunsOn : LiveOptions → (behind : After) → (x x' : Live T (SenderOver C I O) K) → Went → Type 0
+  abbrev pub RunsOn : RunOptions → (behind : After) → (x x' : Live T (SenderOver C I O) K) → Went → Type 0
   RunsOn options GoesOn x x' went =
       Then (SettlesOnce opens closes remaining contents leaves is_clean saves fails options)
-      (RunsTurns (takes options.reading) opens closes remaining contents leaves is_clean saves fails options.form) x x'
+      (RunsTurns (takes options.size) opens closes remaining contents leaves is_clean saves fails options.account) x x'
       went
   RunsOn options (Ends end) x x' went = (x' ≡ record x { behind = GoesOn }) × (went ≡ ended_as end)
 
   -- what a sender does that was given a server so: it joins its encoder and makes the station where that is due, and
   -- then goes on by what comes behind what was outstanding
-  abbrev pub RunsLive : LiveOptions → (due : Bool) → (x x' : Live T (SenderOver C I O) K) → Went → Type 0
+  abbrev pub RunsLive : RunOptions → (due : Bool) → (x x' : Live T (SenderOver C I O) K) → Went → Type 0
   RunsLive options due = Then (MakesOnce opens closes remaining contents leaves is_clean saves fails options due)
       (λ x x' went. RunsOn options x.behind x x' went)
 
   -- ---- A whole run.
 
   -- One sender ran so with a server, over connections that came from there, and hung up; and this is left.
-  abbrev pub RunsOne : LiveOptions → (due : Bool) → (c c' : C) → (x x' : Live T ServerState K) → Went → Type 0
+  abbrev pub RunsOne : RunOptions → (due : Bool) → (c c' : C) → (x x' : Live T ServerState K) → Went → Type 0
   RunsOne options due c c' x x' went =
       (loan : ℕ) × (z : Live T (SenderOver C I O) K)
       × RunsLive options due (record {
@@ -298,19 +296,20 @@ module _ {T C I O K : Type 0} (takes : Reading → (messages : List (List ℕ)) 
   -- It did so with a server to the encoder at this address that holds nothing, and then another sender ran with that,
   -- which joins its encoder and makes the station first. Or the save failed, or a line could not be written, and no
   -- sender ran.
-  abbrev pub RunsAgain : LiveOptions → (address : ℕ) → (c c' : C) → (x x' : Live T ServerState K) → Went → Type 0
+  abbrev pub RunsAgain : RunOptions → (address : ℕ) → (c c' : C) → (x x' : Live T ServerState K) → Went → Type 0
   RunsAgain options address c c' x x' went =
       (y : Standing ServerState K) × (y.runs ≡ idle_at address)
-      × ((Renews leaves is_clean saves fails options.form x.unknown x.sends y (Ok tt)
+      × ((Renews leaves is_clean saves fails (form_of options.account) x.unknown x.sends y (Ok tt)
       × RunsOne options true c c' (from_anew x y) x' went)
-      ⊎ ((stop : KeptStop) × Renews leaves is_clean saves fails options.form x.unknown x.sends y (Err stop) × (went ≡
+      ⊎ ((stop : KeptStop) × Renews leaves is_clean saves fails (form_of options.account) x.unknown x.sends y (Err stop)
+      × (went ≡
       Err stop)
       × (c' ≡ c)
       × (x' ≡ from_anew x y)))
 
   -- One sender ran so, and after it so many more, one after another, each from where the one before stopped: there
   -- messages were outstanding, and the encoder is taken for a new one.
-  abbrev pub RunsFor : LiveOptions → (due : Bool) → (again : ℕ) → (c c' : C) → (x x' : Live T ServerState K) → Went
+  abbrev pub RunsFor : RunOptions → (due : Bool) → (again : ℕ) → (c c' : C) → (x x' : Live T ServerState K) → Went
       → Type 0
   RunsFor options due zero c c' x x' went = RunsOne options due c c' x x' went
   RunsFor options due (suc n) c c' x x' went =
@@ -320,12 +319,13 @@ module _ {T C I O K : Type 0} (takes : Reading → (messages : List (List ℕ)) 
   -- The writer got the line of how far the server has come; it began anew where its encoder is to be joined; and then
   -- one sender after another ran so, over connections that came from there, and this is left of that. Or the run
   -- stopped before a connection was opened and a line taken.
-  abbrev pub LivesFrom : LiveOptions → (c c' : C) → (x : Live T ServerState K) → (k' : K) → (held' : Option (List ℕ))
+  abbrev pub LivesFrom : RunOptions → (c c' : C) → (x : Live T ServerState K) → (k' : K) → (held' : Option (List ℕ))
       → (taken : T) → (applied : Bool) → Went → Type 0
   LivesFrom options c c' x k' held' taken applied went =
       ((y : Standing ServerState K) × (again : ℕ) × (z : Live T ServerState K)
-      × Then (TellsTaken options.form)
-      (BeginsAnewIf leaves is_clean saves fails options.form (is_due options.join x.sends.progress)) x.sends y
+      × Then (TellsTaken (form_of options.account))
+      (BeginsAnewIf leaves is_clean saves fails (form_of options.account) (is_due options.join x.sends.progress))
+      x.sends y
       (Ok tt)
       × RunsFor options (is_due options.join x.sends.progress) again c c' (record {
         sends = y;
@@ -337,13 +337,26 @@ module _ {T C I O K : Type 0} (takes : Reading → (messages : List (List ℕ)) 
       × IsLast opens closes remaining contents leaves is_clean saves fails options again z
       × (k' ≡ z.sends.keeper) × (held' ≡ z.sends.held) × (taken ≡ z.takes) × (applied ≡ z.applied))
       ⊎ ((y : Standing ServerState K) × (stop : KeptStop)
-      × Then (TellsTaken options.form)
-      (BeginsAnewIf leaves is_clean saves fails options.form (is_due options.join x.sends.progress)) x.sends y
+      × Then (TellsTaken (form_of options.account))
+      (BeginsAnewIf leaves is_clean saves fails (form_of options.account) (is_due options.join x.sends.progress))
+      x.sends y
       (Err stop)
       × (went ≡ Err stop) × (c' ≡ c) × (k' ≡ y.keeper) × (held' ≡ y.held) × (taken ≡ x.takes)
       × (applied ≡ x.applied))
 
 -- ---- A whole run whose batches are taken from a feed.
+
+-- what of these options is no matter of its lines: each message is told under its number
+abbrev pub run_of : LiveOptions → RunOptions
+run_of options = record {
+  limits = options.limits;
+  size = options.reading.size;
+  join = options.join;
+  rejoin = options.rejoin;
+  account = Numbered options.form;
+  station = options.station;
+}
+
 module _ {D C I O K : Type 0} (unread : D → Option (List ℕ))
     (takes : D → Result Next FeedFault → List ℕ → D → Type 0) (says : D → Bool → D → Type 0)
     (passes : D → Refusal → Result (Unit {0}) NotKept → D → Type 0)
@@ -357,8 +370,9 @@ module _ {D C I O K : Type 0} (unread : D → Option (List ℕ))
       → Type 0
   Lives options c c' x k' held' feed feed' said said' status =
       (went : Went) × (taken : FeedIntake D) × (applied : Bool)
-      × LivesFrom (FromFeed unread takes says passes) opens closes remaining contents leaves is_clean saves fails
-      options c c' (record {
+      × LivesFrom (FromFeed unread takes says passes options.reading.input options.reading.strict) opens closes
+      remaining
+      contents leaves is_clean saves fails (run_of options) c c' (record {
         sends = x;
         takes = record { feed = feed; lines = options.lines_before; refused = false; said = said };
         applied = true;

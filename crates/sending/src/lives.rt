@@ -2,15 +2,15 @@
 ghost use Rattle.std.specs.Prelude.{◌≡◌, ◌⊎◌, ◌≤◌, ◌<◌, ◌-◌, ◌^◌, [], ℕ, true, false, IsTrue};
 ghost use Rattle.uecp_frame.specs.Address.{is_exact};
 ghost use Rattle.uecp_link.specs.Server.{ServerState};
-ghost use Rattle.sending.specs.Run.{live, FromFeed, Renews, RunsOne, RunsAgain, RunsFor, IsLast};
+ghost use Rattle.sending.specs.Run.{live, Renews, RunsOne, RunsAgain, RunsFor, IsLast};
 
+use crate::account::form_of;
 use crate::course::Course;
-use crate::intake::Intake;
-use crate::options::LiveOptions;
+use crate::options::RunOptions;
 use crate::run::run_sender;
+use crate::source::Source;
 use crate::teller::Teller;
 use kept_jobs::KeptStop;
-use line_feed::Feed;
 use output_forms::Form;
 use std::io::Write;
 use std::time::Clock;
@@ -27,43 +27,43 @@ const TAKEN_MAX: u64 = 1 << 63;
 
 /// Sends by one sender, and by another one as long as messages are outstanding and their encoder is taken for a new
 /// one.
-pub(crate) fn run_all<K: Keep<SavedServer>, F: Feed, W: Write, E: Write, C: Connections, T: Clock>(
+pub(crate) fn run_all<K: Keep<SavedServer>, S: Source, W: Write, C: Connections, T: Clock>(
     due: bool,
-    options: &LiveOptions<'_>,
+    options: &RunOptions<'_>,
     server: Server,
     keeper: &mut K,
-    intake: &mut Intake<'_, '_, F, E>,
+    source: &mut S,
     teller: &mut Teller<'_, W, T>,
     connect: &mut C,
     course: &mut Course,
 ) -> Result<(), KeptStop>
-    requires some { 1 ≤ options.now.reading.size }
-    requires most { options.now.reading.size ≤ 8 }
+    requires some { 1 ≤ options.now.size }
+    requires most { options.now.size ≤ 8 }
     requires exact { IsTrue (is_exact server.address) }
     requires idle { IsTrue due → server.held ≡ [] }
     requires not_joined { IsTrue due → course.old.progress.joined ≡ false }
     requires countable { course.old.progress.taken < 2 ^ 63 }
     ensures runs { (again : ℕ) × (last : ServerState)
-        × RunsFor (FromFeed F.remaining F.takes F.says F.passes) C.opens C.closes C.Input.remaining C.Output.contents
+        × RunsFor (S.takes (S.how source.old)) C.opens C.closes C.Input.remaining C.Output.contents
         K.leaves
         K.is_clean K.saves K.fails
-        options.now due again connect.old connect.new (live server keeper.old intake.old teller.old course.old)
-        (live last keeper.new intake.new teller.new course.new) result
+        options.now due again connect.old connect.new (live server keeper.old (S.at source.old) teller.old course.old)
+        (live last keeper.new (S.at source.new) teller.new course.new) result
         × IsLast C.opens C.closes C.Input.remaining C.Output.contents K.leaves K.is_clean K.saves K.fails options.now
-        again (live last keeper.new intake.new teller.new course.new) }
-    ensures feed { intake.new.feed ≡ intake.old.feed }
-    ensures errors { intake.new.errors ≡ intake.old.errors }
+        again (live last keeper.new (S.at source.new) teller.new course.new) }
+    ensures how { S.how source.new ≡ S.how source.old }
+    ensures lent { S.lent source.new ≡ S.lent source.old }
     ensures writer { teller.new.writer ≡ teller.old.writer }
 {
     let address = server.address();
     let mut ran = run_one(
-        due, options, server, keeper, intake, teller, connect, course,
+        due, options, server, keeper, source, teller, connect, course,
     );
     for _again in 0..AGAIN_MAX {
         if !goes_on(options.rejoin, course.unknown, course.progress.taken) {
             return ran;
         }
-        ran = run_again(address, options, keeper, intake, teller, connect, course);
+        ran = run_again(address, options, keeper, source, teller, connect, course);
     }
     ran
 }
@@ -78,27 +78,27 @@ fn goes_on(rejoin: bool, unknown: usize, taken: u64) -> bool
 
 /// Begins anew with a server to the encoder at this address, tells what is outstanding as unknown, and sends by another
 /// sender.
-fn run_again<K: Keep<SavedServer>, F: Feed, W: Write, E: Write, C: Connections, T: Clock>(
+fn run_again<K: Keep<SavedServer>, S: Source, W: Write, C: Connections, T: Clock>(
     address: Address,
-    options: &LiveOptions<'_>,
+    options: &RunOptions<'_>,
     keeper: &mut K,
-    intake: &mut Intake<'_, '_, F, E>,
+    source: &mut S,
     teller: &mut Teller<'_, W, T>,
     connect: &mut C,
     course: &mut Course,
 ) -> Result<(), KeptStop>
-    requires some { 1 ≤ options.now.reading.size }
-    requires most { options.now.reading.size ≤ 8 }
+    requires some { 1 ≤ options.now.size }
+    requires most { options.now.size ≤ 8 }
     requires exact { IsTrue (is_exact address) }
     requires countable { course.old.progress.taken < 2 ^ 63 }
     ensures runs { (before : ServerState) → (last : ServerState)
-        × RunsAgain (FromFeed F.remaining F.takes F.says F.passes) C.opens C.closes C.Input.remaining C.Output.contents
+        × RunsAgain (S.takes (S.how source.old)) C.opens C.closes C.Input.remaining C.Output.contents
         K.leaves
         K.is_clean K.saves K.fails
-        options.now address connect.old connect.new (live before keeper.old intake.old teller.old course.old)
-        (live last keeper.new intake.new teller.new course.new) result }
-    ensures feed { intake.new.feed ≡ intake.old.feed }
-    ensures errors { intake.new.errors ≡ intake.old.errors }
+        options.now address connect.old connect.new (live before keeper.old (S.at source.old) teller.old course.old)
+        (live last keeper.new (S.at source.new) teller.new course.new) result }
+    ensures how { S.how source.new ≡ S.how source.old }
+    ensures lent { S.lent source.new ≡ S.lent source.old }
     ensures writer { teller.new.writer ≡ teller.old.writer }
 {
     let server = Server::new(address);
@@ -106,7 +106,7 @@ fn run_again<K: Keep<SavedServer>, F: Feed, W: Write, E: Write, C: Connections, 
     course.applied = false;
     course.unknown = 0;
     match renew(
-        options.form,
+        form_of(options.account),
         count,
         &server,
         keeper,
@@ -115,7 +115,7 @@ fn run_again<K: Keep<SavedServer>, F: Feed, W: Write, E: Write, C: Connections, 
     ) {
         Err(stop) => Err(stop),
         Ok(()) => run_one(
-            true, options, server, keeper, intake, teller, connect, course,
+            true, options, server, keeper, source, teller, connect, course,
         ),
     }
 }
@@ -147,33 +147,33 @@ fn renew<K: Keep<SavedServer>, W: Write, T: Clock>(
 }
 
 /// Sends by one sender.
-fn run_one<K: Keep<SavedServer>, F: Feed, W: Write, E: Write, C: Connections, T: Clock>(
+fn run_one<K: Keep<SavedServer>, S: Source, W: Write, C: Connections, T: Clock>(
     due: bool,
-    options: &LiveOptions<'_>,
+    options: &RunOptions<'_>,
     server: Server,
     keeper: &mut K,
-    intake: &mut Intake<'_, '_, F, E>,
+    source: &mut S,
     teller: &mut Teller<'_, W, T>,
     connect: &mut C,
     course: &mut Course,
 ) -> Result<(), KeptStop>
-    requires some { 1 ≤ options.now.reading.size }
-    requires most { options.now.reading.size ≤ 8 }
+    requires some { 1 ≤ options.now.size }
+    requires most { options.now.size ≤ 8 }
     requires idle { IsTrue due → server.held ≡ [] }
     requires not_joined { IsTrue due → course.old.progress.joined ≡ false }
     requires countable { course.old.progress.taken < 2 ^ 63 }
     ensures runs { (last : ServerState)
-        × RunsOne (FromFeed F.remaining F.takes F.says F.passes) C.opens C.closes C.Input.remaining C.Output.contents
+        × RunsOne (S.takes (S.how source.old)) C.opens C.closes C.Input.remaining C.Output.contents
         K.leaves
         K.is_clean K.saves K.fails
-        options.now due connect.old connect.new (live server keeper.old intake.old teller.old course.old)
-        (live last keeper.new intake.new teller.new course.new) result }
-    ensures feed { intake.new.feed ≡ intake.old.feed }
-    ensures errors { intake.new.errors ≡ intake.old.errors }
+        options.now due connect.old connect.new (live server keeper.old (S.at source.old) teller.old course.old)
+        (live last keeper.new (S.at source.new) teller.new course.new) result }
+    ensures how { S.how source.new ≡ S.how source.old }
+    ensures lent { S.lent source.new ≡ S.lent source.old }
     ensures writer { teller.new.writer ≡ teller.old.writer }
 {
     let mut sender = Sender::new(connect, server, options.limits);
-    let ran = run_sender(due, options, &mut sender, keeper, intake, teller, course);
+    let ran = run_sender(due, options, &mut sender, keeper, source, teller, course);
     let _connect = sender.finish();
     ran
 }

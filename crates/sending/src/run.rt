@@ -5,13 +5,15 @@ ghost use Rattle.kept_jobs.specs.Stops.{Went};
 ghost use Rattle.kept_jobs.specs.ServerRun.{is_due};
 ghost use Rattle.line_batches.specs.declared.taking.After.{After as Next};
 ghost use Rattle.line_batches.specs.declared.taking.After.TheVariants.{GoesOn};
-ghost use Rattle.sending.specs.Run.{live, FromFeed, Turn, ended_as, RunsTurns, RunsOn, RunsLive, LivesFrom, Lives};
+ghost use Rattle.sending.specs.Run.{live, Turn, ended_as, RunsTurns, RunsOn, RunsLive, LivesFrom, Lives};
 
+use crate::account::form_of;
 use crate::beginning::begin;
 use crate::course::Course;
 use crate::intake::Intake;
 use crate::lives::run_all;
-use crate::options::LiveOptions;
+use crate::options::{LiveOptions, RunOptions, run_of};
+use crate::source::Source;
 use crate::station::make_if;
 use crate::teller::Teller;
 use crate::turn::{send_some, settle_first};
@@ -45,13 +47,13 @@ const TURNS_MAX: u64 = 1 << 59;
 /// Where messages are outstanding the run stops; or, with `rejoin`, a new server is saved in place of this one, they
 /// are told as unknown and not sent again, and it goes on with that as with one that is not joined. Where the end of
 /// the run was found behind them it joins the encoder and makes the station, and then ends so.
-pub fn run_live<K: Keep<SavedServer>, F: Feed, W: Write, E: Write, C: Connections, T: Clock>(
-    options: &LiveOptions<'_>,
+pub fn run_live<'a, K: Keep<SavedServer>, F: Feed, W: Write, E: Write, C: Connections, T: Clock>(
+    options: &'a LiveOptions<'_>,
     start: Start,
     keeper: &mut K,
-    feed: &mut F,
+    feed: &'a mut F,
     teller: &mut Teller<'_, W, T>,
-    errors: &mut NoticesTo<E>,
+    errors: &'a mut NoticesTo<E>,
     connect: &mut C,
 ) -> u8
     requires exact { IsTrue (is_exact start.server.address) }
@@ -70,10 +72,16 @@ pub fn run_live<K: Keep<SavedServer>, F: Feed, W: Write, E: Write, C: Connection
         errors.new result }
     ensures writer { teller.new.writer ≡ teller.old.writer }
 {
-    let mut intake = Intake::new(teller.alloc(), options.lines_before, feed, errors);
+    let mut intake = Intake::new(
+        teller.alloc(),
+        &options.reading,
+        options.lines_before,
+        feed,
+        errors,
+    );
     let mut applied = true;
     let ran = run_from(
-        options,
+        &run_of(options),
         start,
         keeper,
         &mut intake,
@@ -83,10 +91,15 @@ pub fn run_live<K: Keep<SavedServer>, F: Feed, W: Write, E: Write, C: Connection
     );
     let status = intake.end(ran, applied);
     let (fed, told) = intake.finish();
-    let _errors = told.finish();
-    let _feed = fed.finish();
+    let_go(fed.finish(), told.finish());
     status
 }
+
+/// Lets both go at once, as they are.
+fn let_go<F: Feed, E: Write>(_feed: &mut F, _errors: &mut NoticesTo<E>)
+    ensures feed { _feed.new ≡ _feed.old }
+    ensures errors { _errors.new ≡ _errors.old }
+{}
 
 /// Whether the encoder is to be joined: where that is asked for, or it was not yet.
 fn is_due(join: bool, progress: Progress) -> bool
@@ -95,22 +108,25 @@ fn is_due(join: bool, progress: Progress) -> bool
     join || !progress.joined
 }
 
-/// Tells how far the server has come, begins anew where its encoder is to be joined, and sends by one
-/// sender after another.
-fn run_from<K: Keep<SavedServer>, F: Feed, W: Write, E: Write, C: Connections, T: Clock>(
-    options: &LiveOptions<'_>,
+/// Tells how far the server has come, begins anew where its encoder is to be joined, and sends what comes from the
+/// source by one sender after another.
+///
+/// The messages of the source are sent batch by batch, each kept before its frame leaves; what comes of them is told as
+/// the options say. `applied` stays true where each message that was answered was applied.
+pub fn run_from<K: Keep<SavedServer>, S: Source, W: Write, C: Connections, T: Clock>(
+    options: &RunOptions<'_>,
     start: Start,
     keeper: &mut K,
-    intake: &mut Intake<'_, '_, F, E>,
+    source: &mut S,
     teller: &mut Teller<'_, W, T>,
     connect: &mut C,
     applied: &mut bool,
 ) -> Result<(), KeptStop>
     requires exact { IsTrue (is_exact start.server.address) }
     requires countable { start.progress.taken < 2 ^ 63 }
-    requires some { 1 ≤ options.now.reading.size }
-    requires most { options.now.reading.size ≤ 8 }
-    ensures lives { LivesFrom (FromFeed F.remaining F.takes F.says F.passes) C.opens C.closes C.Input.remaining
+    requires some { 1 ≤ options.now.size }
+    requires most { options.now.size ≤ 8 }
+    ensures lives { LivesFrom (S.takes (S.how source.old)) C.opens C.closes C.Input.remaining
         C.Output.contents
         K.leaves K.is_clean K.saves K.fails
         options.now connect.old connect.new (record {
@@ -120,20 +136,20 @@ fn run_from<K: Keep<SavedServer>, F: Feed, W: Write, E: Write, C: Connections, T
             progress = start.progress;
             held = teller.old.held;
           };
-          takes = intake.old.at;
+          takes = S.at source.old;
           applied = applied.old;
           unknown = 0;
           behind = GoesOn;
-        }) keeper.new teller.new.held intake.new.at applied.new result }
-    ensures feed { intake.new.feed ≡ intake.old.feed }
-    ensures errors { intake.new.errors ≡ intake.old.errors }
+        }) keeper.new teller.new.held (S.at source.new) applied.new result }
+    ensures how { S.how source.new ≡ S.how source.old }
+    ensures lent { S.lent source.new ≡ S.lent source.old }
     ensures writer { teller.new.writer ≡ teller.old.writer }
 {
     let mut server = start.server;
     let mut progress = start.progress;
     let due = is_due(options.join, progress);
     match begin(
-        options.form,
+        form_of(options.account),
         due,
         &mut server,
         &mut progress,
@@ -153,7 +169,7 @@ fn run_from<K: Keep<SavedServer>, F: Feed, W: Write, E: Write, C: Connections, T
                 options,
                 server,
                 keeper,
-                intake,
+                source,
                 teller,
                 connect,
                 &mut course,
@@ -166,95 +182,88 @@ fn run_from<K: Keep<SavedServer>, F: Feed, W: Write, E: Write, C: Connections, T
 
 /// Joins the encoder and makes the station where that is due, and then goes on by what comes behind what was
 /// outstanding.
-pub(crate) fn run_sender<
-    K: Keep<SavedServer>,
-    F: Feed,
-    W: Write,
-    E: Write,
-    C: Connections,
-    T: Clock,
->(
+pub(crate) fn run_sender<K: Keep<SavedServer>, S: Source, W: Write, C: Connections, T: Clock>(
     due: bool,
-    options: &LiveOptions<'_>,
+    options: &RunOptions<'_>,
     sender: &mut Sender<'_, C>,
     keeper: &mut K,
-    intake: &mut Intake<'_, '_, F, E>,
+    source: &mut S,
     teller: &mut Teller<'_, W, T>,
     course: &mut Course,
 ) -> Result<(), KeptStop>
-    requires some { 1 ≤ options.now.reading.size }
-    requires most { options.now.reading.size ≤ 8 }
+    requires some { 1 ≤ options.now.size }
+    requires most { options.now.size ≤ 8 }
     requires idle { IsTrue due → sender.old.sender.server.held ≡ [] }
     requires not_joined { IsTrue due → course.old.progress.joined ≡ false }
     requires countable { course.old.progress.taken < 2 ^ 63 }
-    ensures runs { RunsLive (FromFeed F.remaining F.takes F.says F.passes) C.opens C.closes C.Input.remaining
+    ensures runs { RunsLive (S.takes (S.how source.old)) C.opens C.closes C.Input.remaining
         C.Output.contents
         K.leaves K.is_clean K.saves K.fails
-        options.now due (live sender.old keeper.old intake.old teller.old course.old)
-        (live sender.new keeper.new intake.new teller.new course.new) result }
+        options.now due (live sender.old keeper.old (S.at source.old) teller.old course.old)
+        (live sender.new keeper.new (S.at source.new) teller.new course.new) result }
     ensures loan { sender.new.loan ≡ sender.old.loan }
-    ensures feed { intake.new.feed ≡ intake.old.feed }
-    ensures errors { intake.new.errors ≡ intake.old.errors }
+    ensures how { S.how source.new ≡ S.how source.old }
+    ensures lent { S.lent source.new ≡ S.lent source.old }
     ensures writer { teller.new.writer ≡ teller.old.writer }
 {
     make_if(options, due, sender, keeper, teller, course)?;
     match replace(&mut course.behind, After::GoesOn) {
         After::Ends(ended) => ended_as(ended),
-        After::GoesOn => go_on(options, sender, keeper, intake, teller, course),
+        After::GoesOn => go_on(options, sender, keeper, source, teller, course),
     }
 }
 
 /// Settles what waits, and then takes and sends batch after batch.
-fn go_on<K: Keep<SavedServer>, F: Feed, W: Write, E: Write, C: Connections, T: Clock>(
-    options: &LiveOptions<'_>,
+fn go_on<K: Keep<SavedServer>, S: Source, W: Write, C: Connections, T: Clock>(
+    options: &RunOptions<'_>,
     sender: &mut Sender<'_, C>,
     keeper: &mut K,
-    intake: &mut Intake<'_, '_, F, E>,
+    source: &mut S,
     teller: &mut Teller<'_, W, T>,
     course: &mut Course,
 ) -> Result<(), KeptStop>
-    requires some { 1 ≤ options.now.reading.size }
-    requires most { options.now.reading.size ≤ 8 }
+    requires some { 1 ≤ options.now.size }
+    requires most { options.now.size ≤ 8 }
     requires countable { course.old.progress.taken < 2 ^ 63 }
-    ensures runs { RunsOn (FromFeed F.remaining F.takes F.says F.passes) C.opens C.closes C.Input.remaining
+    ensures runs { RunsOn (S.takes (S.how source.old)) C.opens C.closes C.Input.remaining
         C.Output.contents
         K.leaves K.is_clean K.saves K.fails
-        options.now GoesOn (live sender.old keeper.old intake.old teller.old course.old)
-        (live sender.new keeper.new intake.new teller.new course.new) result }
+        options.now GoesOn (live sender.old keeper.old (S.at source.old) teller.old course.old)
+        (live sender.new keeper.new (S.at source.new) teller.new course.new) result }
     ensures loan { sender.new.loan ≡ sender.old.loan }
-    ensures feed { intake.new.feed ≡ intake.old.feed }
-    ensures errors { intake.new.errors ≡ intake.old.errors }
+    ensures how { S.how source.new ≡ S.how source.old }
+    ensures lent { S.lent source.new ≡ S.lent source.old }
     ensures writer { teller.new.writer ≡ teller.old.writer }
 {
-    settle_first(options.form, sender, keeper, teller, course)?;
-    run_turns(options, sender, keeper, intake, teller, course)
+    settle_first(options.account, sender, keeper, teller, course)?;
+    run_turns(options, sender, keeper, source, teller, course)
 }
 
 /// Takes and sends one batch after another.
-fn run_turns<K: Keep<SavedServer>, F: Feed, W: Write, E: Write, C: Connections, T: Clock>(
-    options: &LiveOptions<'_>,
+fn run_turns<K: Keep<SavedServer>, S: Source, W: Write, C: Connections, T: Clock>(
+    options: &RunOptions<'_>,
     sender: &mut Sender<'_, C>,
     keeper: &mut K,
-    intake: &mut Intake<'_, '_, F, E>,
+    source: &mut S,
     teller: &mut Teller<'_, W, T>,
     course: &mut Course,
 ) -> Result<(), KeptStop>
-    requires some { 1 ≤ options.now.reading.size }
-    requires most { options.now.reading.size ≤ 8 }
+    requires some { 1 ≤ options.now.size }
+    requires most { options.now.size ≤ 8 }
     requires idle { sender.old.sender.server.held ≡ [] }
     requires countable { course.old.progress.taken < 2 ^ 63 }
-    ensures runs { RunsTurns (FromFeed F.remaining F.takes F.says F.passes options.now.reading) C.opens C.closes
+    ensures runs { RunsTurns (S.takes (S.how source.old) options.now.size) C.opens C.closes
         C.Input.remaining C.Output.contents K.leaves K.is_clean K.saves K.fails
-        options.now.form
-        (live sender.old keeper.old intake.old teller.old course.old)
-        (live sender.new keeper.new intake.new teller.new course.new) result }
+        options.now.account
+        (live sender.old keeper.old (S.at source.old) teller.old course.old)
+        (live sender.new keeper.new (S.at source.new) teller.new course.new) result }
     ensures loan { sender.new.loan ≡ sender.old.loan }
-    ensures feed { intake.new.feed ≡ intake.old.feed }
-    ensures errors { intake.new.errors ≡ intake.old.errors }
+    ensures how { S.how source.new ≡ S.how source.old }
+    ensures lent { S.lent source.new ≡ S.lent source.old }
     ensures writer { teller.new.writer ≡ teller.old.writer }
 {
     for _turn in 0..TURNS_MAX {
-        match make_turn(options, sender, keeper, intake, teller, course) {
+        match make_turn(options, sender, keeper, source, teller, course) {
             Err(stop) => return Err(stop),
             Ok(After::Ends(ended)) => return ended_as(ended),
             Ok(After::GoesOn) => {}
@@ -275,42 +284,41 @@ fn ended_as(ended: Result<(), RunFault>) -> Result<(), KeptStop>
 
 /// Takes one batch and sends it, and tells what comes after it; where it could not be sent, that is put down as what
 /// comes behind it.
-fn make_turn<K: Keep<SavedServer>, F: Feed, W: Write, E: Write, C: Connections, T: Clock>(
-    options: &LiveOptions<'_>,
+fn make_turn<K: Keep<SavedServer>, S: Source, W: Write, C: Connections, T: Clock>(
+    options: &RunOptions<'_>,
     sender: &mut Sender<'_, C>,
     keeper: &mut K,
-    intake: &mut Intake<'_, '_, F, E>,
+    source: &mut S,
     teller: &mut Teller<'_, W, T>,
     course: &mut Course,
 ) -> Result<After, KeptStop>
-    requires some { 1 ≤ options.now.reading.size }
-    requires most { options.now.reading.size ≤ 8 }
+    requires some { 1 ≤ options.now.size }
+    requires most { options.now.size ≤ 8 }
     requires idle { sender.old.sender.server.held ≡ [] }
     requires countable { course.old.progress.taken + 8 < 2 ^ 64 - 1 }
-    ensures made { IfOk result (λ after. Turn (FromFeed F.remaining F.takes F.says F.passes options.now.reading) C.opens
+    ensures made { IfOk result (λ after. Turn (S.takes (S.how source.old) options.now.size) C.opens
         C.closes
         C.Input.remaining C.Output.contents K.leaves K.is_clean
-        K.saves K.fails options.now.form
-        (live sender.old keeper.old intake.old teller.old course.old)
-        (live sender.new keeper.new intake.new teller.new course.new) after (Ok tt)) }
+        K.saves K.fails options.now.account
+        (live sender.old keeper.old (S.at source.old) teller.old course.old)
+        (live sender.new keeper.new (S.at source.new) teller.new course.new) after (Ok tt)) }
     ensures stopped { IfErr result (λ stop. (after : Next)
-        × Turn (FromFeed F.remaining F.takes F.says F.passes options.now.reading) C.opens C.closes C.Input.remaining
+        × Turn (S.takes (S.how source.old) options.now.size) C.opens C.closes C.Input.remaining
         C.Output.contents K.leaves K.is_clean
-        K.saves K.fails options.now.form
-        (live sender.old keeper.old intake.old teller.old course.old)
-        (live sender.new keeper.new intake.new teller.new course.new) after (Err stop)) }
+        K.saves K.fails options.now.account
+        (live sender.old keeper.old (S.at source.old) teller.old course.old)
+        (live sender.new keeper.new (S.at source.new) teller.new course.new) after (Err stop)) }
     ensures taken { course.new.progress.taken ≤ course.old.progress.taken + 8 }
     ensures idle { IfOk result (λ _. sender.new.sender.server.held ≡ []) }
     ensures loan { sender.new.loan ≡ sender.old.loan }
-    ensures feed { intake.new.feed ≡ intake.old.feed }
-    ensures errors { intake.new.errors ≡ intake.old.errors }
+    ensures how { S.how source.new ≡ S.how source.old }
+    ensures lent { S.lent source.new ≡ S.lent source.old }
     ensures writer { teller.new.writer ≡ teller.old.writer }
 {
-    let mut batch = Vec::new(teller.alloc());
-    let after = intake.take(&options.reading, &mut batch);
+    let after = source.take(options.size);
     match send_some(
-        options.form,
-        batch.as_slice(),
+        options.account,
+        source.batch(),
         sender,
         keeper,
         teller,

@@ -9,14 +9,16 @@ ghost use Rattle.uecp_net.specs.Sending.{submitted_all};
 ghost use Rattle.uecp_net.specs.Keeping.{KeptServer, IsKept};
 ghost use Rattle.uecp_net.specs.SavedJoining.{OutlivesPass, StaysKeptJoining, joined_as};
 ghost use Rattle.sending.specs.Lines.{is_applied};
+ghost use Rattle.sending.specs.Accounts.{form_of};
 ghost use Rattle.sending.specs.Forms.{refused_in};
 ghost use Rattle.sending.specs.Run.{stands};
 ghost use Rattle.sending.specs.Station.{SettlesBatch, SendsStation, MakesStation, MakesKept, MakesIf};
 
+use crate::account::form_of;
 use crate::course::Course;
 use crate::forms::{put_applied_in, put_joined_in, put_refused_in};
 use crate::lines::all_applied;
-use crate::options::LiveOptions;
+use crate::options::RunOptions;
 use crate::teller::Teller;
 use kept_jobs::KeptStop;
 use output_forms::Form;
@@ -30,19 +32,19 @@ use uecp_text::Output;
 /// Joins the encoder and makes the station where that is due, saves the server as joined then, and tells it once that
 /// is kept.
 pub(crate) fn make_if<K: Keep<SavedServer>, W: Write, C: Connections, T: Clock>(
-    options: &LiveOptions<'_>,
+    options: &RunOptions<'_>,
     due: bool,
     sender: &mut Sender<'_, C>,
     keeper: &mut K,
     teller: &mut Teller<'_, W, T>,
     course: &mut Course,
 ) -> Result<(), KeptStop>
-    requires some { 1 ≤ options.now.reading.size }
-    requires most { options.now.reading.size ≤ 8 }
+    requires some { 1 ≤ options.now.size }
+    requires most { options.now.size ≤ 8 }
     requires idle { IsTrue due → sender.old.sender.server.held ≡ [] }
     requires not_joined { IsTrue due → course.old.progress.joined ≡ false }
     ensures makes { MakesIf C.opens C.closes C.Input.remaining C.Output.contents K.leaves K.is_clean K.saves K.fails
-        options.now.form options.now.reading.size options.now.station.now due
+        (form_of options.now.account) options.now.size options.now.station.now due
         (stands sender.old keeper.old course.old teller.old) (stands sender.new keeper.new course.new teller.new)
         course.old.applied course.new.applied result }
     ensures taken { course.new.progress.taken ≡ course.old.progress.taken }
@@ -54,13 +56,13 @@ pub(crate) fn make_if<K: Keep<SavedServer>, W: Write, C: Connections, T: Clock>(
     if !due {
         return Ok(());
     }
-    let form = options.form;
+    let form = form_of(options.account);
     let mut lines = Output::new(teller.alloc());
     put_joined_in(form, &mut lines);
     let mut all = true;
     let joined = make_kept(
         form,
-        options.reading.size,
+        options.size,
         options.station,
         sender,
         keeper,

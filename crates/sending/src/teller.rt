@@ -1,16 +1,17 @@
 //! Who is told what comes of messages. Source: profile.
-ghost use Rattle.std.specs.Prelude.{◌≡◌, ◌<◌, ◌+◌, ◌-◌, ◌^◌, [], length, List, ℕ, IsTrue, Ok, Err};
+ghost use Rattle.std.specs.Prelude.{◌≡◌, ◌<◌, ◌+◌, ◌-◌, ◌^◌, [], length, List, ℕ, IsTrue, Ok, Err, codes};
 ghost use Rattle.uecp_jobs.specs.Batches.{fault_of};
 ghost use Rattle.kept_jobs.specs.declared.stop.KeptStop.TheVariants.{Run};
 ghost use Rattle.kept_jobs.specs.Stops.{TellsKept};
-ghost use Rattle.sending.specs.Forms.{taken_in, given_up_in, not_joined_in, unknown_in, AreHeld};
+ghost use Rattle.sending.specs.Accounts.{AreHeld, OutstandingTold};
+ghost use Rattle.sending.specs.Forms.{taken_in, given_up_in, not_joined_in, unknown_in};
 ghost use Rattle.sending.specs.Hands.{Telling};
 ghost use Rattle.sending.specs.Run.{AnswersTold, RepliesOf};
 ghost use Rattle.sending.specs.Station.{JoinedTold};
 
-use crate::forms::{
-    put_given_up_in, put_held_in, put_not_joined_in, put_replies_in, put_taken_in, put_unknown_in,
-};
+use crate::account::Account;
+use crate::batches::{put_held_by, put_replies_by};
+use crate::forms::{put_given_up_in, put_not_joined_in, put_taken_in, put_unknown_in};
 use crate::sent::Sent;
 use crate::timing::now;
 use kept_jobs::{KeptStop, stop_for, write_told};
@@ -159,7 +160,7 @@ impl<'a, W: Write, T: Clock> Teller<'a, W, T> {
     /// goes on.
     pub(crate) fn tell_held(
         &mut self,
-        form: Form,
+        account: Account,
         since: u64,
         first: u64,
         marks: &[bool],
@@ -168,15 +169,15 @@ impl<'a, W: Write, T: Clock> Teller<'a, W, T> {
         counts: ServerCounts,
     ) -> Result<(), KeptStop>
         requires countable { first + length marks.now < 2 ^ 64 }
-        ensures tells { AnswersTold (AreHeld form first marks.now sent.now) counts ended.now self.old.held
+        ensures tells { AnswersTold account (AreHeld account first marks.now sent.now) counts ended.now self.old.held
             self.new.held result }
         ensures writer { self.new.writer ≡ self.old.writer }
     {
         match ended {
             Ok(settled) => {
                 let mut output = Output::new(self.alloc);
-                put_held_in(
-                    form,
+                put_held_by(
+                    account,
                     self.clock,
                     since,
                     first,
@@ -187,17 +188,19 @@ impl<'a, W: Write, T: Clock> Teller<'a, W, T> {
                 );
                 write_told(&mut output, self.writer)
             }
-            Err(KeptOutstanding::Outstanding(why)) => Err(stop_for(*why, counts)),
+            Err(KeptOutstanding::Outstanding(why)) => {
+                self.tell_outstanding(account, stop_for(*why, counts))
+            }
             Err(KeptOutstanding::StateFailed) => Err(KeptStop::StateFailed),
         }
     }
 
     /// Tells what the encoder answered to these messages, each sent under its counter since then, that were settled so,
-    /// the last of which has this number, and says how the run goes on. Nothing is told of messages that are
-    /// outstanding, or where a save failed.
+    /// the last of which has this number, or that they are outstanding, and says how the run goes on. Nothing is told
+    /// where a save failed.
     pub(crate) fn tell_replies(
         &mut self,
-        form: Form,
+        account: Account,
         since: u64,
         last: u64,
         sent: &[Sent],
@@ -205,7 +208,8 @@ impl<'a, W: Write, T: Clock> Teller<'a, W, T> {
         counts: ServerCounts,
     ) -> Result<(), KeptStop>
         requires countable { last < 2 ^ 64 - 1 }
-        ensures tells { AnswersTold (RepliesOf form last sent.now) counts ended.now self.old.held self.new.held
+        ensures tells { AnswersTold account (RepliesOf account last sent.now) counts ended.now self.old.held
+            self.new.held
             result }
         ensures writer { self.new.writer ≡ self.old.writer }
     {
@@ -213,11 +217,45 @@ impl<'a, W: Write, T: Clock> Teller<'a, W, T> {
             Ok(settled) => {
                 let first = first_of(last, settled.codes.len());
                 let mut output = Output::new(self.alloc);
-                put_replies_in(form, self.clock, since, first, sent, settled, &mut output);
+                put_replies_by(
+                    account,
+                    self.clock,
+                    since,
+                    first,
+                    sent,
+                    settled,
+                    &mut output,
+                );
                 write_told(&mut output, self.writer)
             }
-            Err(KeptOutstanding::Outstanding(reason)) => Err(stop_for(*reason, counts)),
+            Err(KeptOutstanding::Outstanding(reason)) => {
+                self.tell_outstanding(account, stop_for(*reason, counts))
+            }
             Err(KeptOutstanding::StateFailed) => Err(KeptStop::StateFailed),
+        }
+    }
+
+    /// Tells that messages are outstanding, where that is told, and says that the run stops for this.
+    fn tell_outstanding(&mut self, account: Account, stop: KeptStop) -> Result<(), KeptStop>
+        ensures tells { OutstandingTold account (Err stop) self.old.held self.new.held result }
+        ensures writer { self.new.writer ≡ self.old.writer }
+    {
+        match account {
+            Account::Numbered(_) => Err(stop),
+            Account::Batches => self.tell_batch_outstanding(stop),
+        }
+    }
+
+    /// Tells that a batch is outstanding, and says that the run stops for this.
+    fn tell_batch_outstanding(&mut self, stop: KeptStop) -> Result<(), KeptStop>
+        ensures tells { TellsKept (codes "outstanding\n") (Err stop) self.old.held self.new.held result }
+        ensures writer { self.new.writer ≡ self.old.writer }
+    {
+        let mut output = Output::new(self.alloc);
+        output.text("outstanding\n");
+        match write_told(&mut output, self.writer) {
+            Err(other) => Err(other),
+            Ok(()) => Err(stop),
         }
     }
 }

@@ -3,13 +3,13 @@ ghost use Rattle.std.specs.Prelude.{◌≡◌, ◌≢◌, ◌≤◌, ◌<◌, �
 ghost use Rattle.uecp_net.specs.Keeping.{taking};
 ghost use Rattle.sending.specs.Run.{SendsBatch, SendsSome, SettlesLive, are_applied, unknown_of, marks_in, stands};
 
+use crate::account::Account;
 use crate::course::Course;
 use crate::lines::all_applied;
 use crate::sent::{sent_after, waiting_of};
 use crate::teller::{Teller, first_of};
 use arrayvec::ArrayVec;
 use kept_jobs::KeptStop;
-use output_forms::Form;
 use std::io::Write;
 use std::time::Clock;
 use uecp_encoder::Keep;
@@ -21,7 +21,7 @@ use uecp_net::{
 
 /// Sends these messages, and tells what the encoder answered to each once that is kept.
 pub(crate) fn send_batch<K: Keep<SavedServer>, W: Write, C: Connections, T: Clock>(
-    form: Form,
+    account: Account,
     batch: &[Message],
     sender: &mut Sender<'_, C>,
     keeper: &mut K,
@@ -33,7 +33,7 @@ pub(crate) fn send_batch<K: Keep<SavedServer>, W: Write, C: Connections, T: Cloc
     requires idle { sender.old.sender.server.held ≡ [] }
     requires countable { course.old.progress.taken + length batch.now < 2 ^ 64 - 1 }
     ensures sends { SendsBatch C.opens C.closes C.Input.remaining C.Output.contents K.leaves K.is_clean K.saves K.fails
-        form batch.now (stands sender.old keeper.old course.old teller.old)
+        account batch.now (stands sender.old keeper.old course.old teller.old)
         (stands sender.new keeper.new course.new teller.new) course.old.applied course.new.applied course.new.unknown
         result }
     ensures progress { course.new.progress ≡ taking course.old.progress (length batch.now) }
@@ -48,7 +48,7 @@ pub(crate) fn send_batch<K: Keep<SavedServer>, W: Write, C: Connections, T: Cloc
     course.applied = course.applied && are_applied(&ended);
     course.unknown = unknown_of(batch.len(), &ended);
     teller.tell_replies(
-        form,
+        account,
         since,
         course.progress.taken,
         sent.as_slice(),
@@ -59,7 +59,7 @@ pub(crate) fn send_batch<K: Keep<SavedServer>, W: Write, C: Connections, T: Cloc
 
 /// Sends these messages so, where there are some.
 pub(crate) fn send_some<K: Keep<SavedServer>, W: Write, C: Connections, T: Clock>(
-    form: Form,
+    account: Account,
     batch: &[Message],
     sender: &mut Sender<'_, C>,
     keeper: &mut K,
@@ -70,7 +70,7 @@ pub(crate) fn send_some<K: Keep<SavedServer>, W: Write, C: Connections, T: Clock
     requires idle { sender.old.sender.server.held ≡ [] }
     requires countable { course.old.progress.taken + length batch.now < 2 ^ 64 - 1 }
     ensures sends { SendsSome C.opens C.closes C.Input.remaining C.Output.contents K.leaves K.is_clean K.saves K.fails
-        form batch.now (stands sender.old keeper.old course.old teller.old)
+        account batch.now (stands sender.old keeper.old course.old teller.old)
         (stands sender.new keeper.new course.new teller.new) course.old.applied course.new.applied course.old.unknown
         course.new.unknown result }
     ensures progress { course.new.progress.taken ≤ course.old.progress.taken + 8 }
@@ -82,12 +82,12 @@ pub(crate) fn send_some<K: Keep<SavedServer>, W: Write, C: Connections, T: Clock
     if batch.is_empty() {
         return Ok(());
     }
-    send_batch(form, batch, sender, keeper, teller, course)
+    send_batch(account, batch, sender, keeper, teller, course)
 }
 
 /// Settles what waits, where messages wait, and tells what the encoder answered to each once that is kept.
 pub(crate) fn settle_first<K: Keep<SavedServer>, W: Write, C: Connections, T: Clock>(
-    form: Form,
+    account: Account,
     sender: &mut Sender<'_, C>,
     keeper: &mut K,
     teller: &mut Teller<'_, W, T>,
@@ -95,7 +95,7 @@ pub(crate) fn settle_first<K: Keep<SavedServer>, W: Write, C: Connections, T: Cl
 ) -> Result<(), KeptStop>
     requires countable { course.old.progress.taken < 2 ^ 64 - 1 }
     ensures settles { SettlesLive C.opens C.closes C.Input.remaining C.Output.contents K.leaves K.is_clean K.saves
-        K.fails form (stands sender.old keeper.old course.old teller.old)
+        K.fails account (stands sender.old keeper.old course.old teller.old)
         (stands sender.new keeper.new course.new teller.new) course.old.applied course.new.applied course.old.unknown
         course.new.unknown result }
     ensures progress { course.new.progress ≡ course.old.progress }
@@ -114,7 +114,7 @@ pub(crate) fn settle_first<K: Keep<SavedServer>, W: Write, C: Connections, T: Cl
     course.applied = course.applied && are_applied(&ended);
     course.unknown = unknown_of(marks.len(), &ended);
     teller.tell_held(
-        form,
+        account,
         since,
         first_of(course.progress.taken, marks.len()),
         marks.as_slice(),

@@ -2,5 +2,8 @@
 pub mod Texts
 pub mod StateLines
 pub mod Opened
+pub mod Lists
+pub mod ServerRun
+pub mod ServerTold
 pub mod ServerJob
 pub mod Kept

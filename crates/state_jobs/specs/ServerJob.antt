@@ -8,10 +8,12 @@ use Rattle.uecp_jobs.specs.Setups.{IsOneEncoder, address_of}
 use Rattle.uecp_net.specs.declared.saved.keep.Progress.{Progress}
 use Rattle.uecp_net.specs.Keeping.{KeptServer, IsKept}
 use Rattle.kept_jobs.specs.Stops.{Went, stop_status}
-use Rattle.kept_jobs.specs.ServerRun.{RunsServer, IsTold}
+use Rattle.kept_jobs.specs.ServerRun.{IsTold}
 use Rattle.kept_jobs.specs.ServerKept.{HasTakenInput, OutlivesRun}
 use Rattle.state_files.specs.declared.fault.StateFault.{StateFault}
 use Rattle.state_files.specs.declared.fault.StateFault.TheVariants.{Damaged}
+use Rattle.state_jobs.specs.ServerRun.{RunsServer}
+use Rattle.state_jobs.specs.ServerTold.{HasTold}
 use Rattle.state_jobs.specs.Texts.{fault_line, Closed, IsClosed}
 use Rattle.notices.specs.Told.{Told, Says}
 
@@ -44,8 +46,8 @@ module _ {K C I O : Type 0} (gives : (path : List ℕ) → ServerState → Progr
   -- The state at the path was opened, its server is one to the encoder that is asked for, and a crash would leave of it
   -- what is to be kept; it sent the messages of the input from there, so it went, and so the close of the state went.
   -- Whatever a crash leaves then has
-  -- taken the messages of the input, or those before the line that is refused, and none of them waits; and however it
-  -- went, what a crash leaves is as `run_server_kept` says.
+  -- taken the messages of the input, or those before the line that is refused, and none of them waits, and of each one
+  -- line was written, in order; and however it went, what a crash leaves is as `run_server_kept` says.
   pub record Sends (path : List ℕ) (address : ℕ) (limits : Limits) (window : ℕ) (join : Bool)
       (unread unread' : Option (List ℕ)) (c c' : C) (held held' : Option (List ℕ)) (went : Went)
       (closed : Closed) : Type 0 where
@@ -60,6 +62,7 @@ module _ {K C I O : Type 0} (gives : (path : List ℕ) → ServerState → Progr
         c c' (record { runs = server; keeper = keeper; progress = progress; held = held }) keeper_after held' went
     pub kept : (status_so went ≡ 0) ⊎ (status_so went ≡ 1) → is_clean keeper_after → (left : KeptServer)
         → leaves keeper_after left → HasTakenInput unread unread' progress left
+    pub told : (status_so went ≡ 0) ⊎ (status_so went ≡ 1) → HasTold join unread unread' progress server held held'
     pub outlives : is_clean keeper_after → (left : KeptServer) → leaves keeper_after left
         → OutlivesRun opens closes remaining contents saves fails join unread unread' progress server left
     pub clean : is_clean keeper_after → is_clean keeper

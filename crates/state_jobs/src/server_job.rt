@@ -14,9 +14,10 @@ ghost use Rattle.state_jobs.specs.ServerJob.{Sends, HasLostState, HasSent};
 ghost use Rattle.notices.specs.Told.{Told, Says};
 
 use crate::open_states::OpenStates;
+use crate::server_run::run_server_kept;
 use crate::texts::{closed_so, fail_file};
 use commands::ServerOptions;
-use kept_jobs::{Start, run_server_kept};
+use kept_jobs::Start;
 use notices::{NoticesTo, fail};
 use state_files::StateFault;
 use std::alloc::Global;

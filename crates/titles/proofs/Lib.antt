@@ -3,3 +3,6 @@ mod Given
 mod Leading
 mod Standing
 mod Cutting
+mod Stringing
+mod Refitting
+mod Spelling

@@ -3,3 +3,6 @@ pub mod Nearest
 pub mod Fitting
 pub mod Cut
 pub mod Titles
+pub mod Strings
+pub mod Parts
+pub mod Lines

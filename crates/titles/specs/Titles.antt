@@ -1,15 +1,15 @@
 -- What a line gives as a title (profile).
 use Rattle.std.specs.Prelude.{◌≡◌, ◌≢◌, ◌⊎◌, ℕ, ◌≤◌, true, false, List, [], ◌++◌, length, map, Some, chars, IsUtf8}
-use Rattle.std.specs.Prelude.{encode_utf8_all, flat_map}
+use Rattle.std.specs.Prelude.{encode_utf8_all}
 use Rattle.std.specs.Str.{trim}
 use Rattle.std.specs.Str.Lossy.{utf8_lossy}
 use Rattle.std.specs.String.{string_bytes}
 use Rattle.unicode_normalization.specs.Forms.{nfc}
 use Rattle.rds_text.specs.BasicSet.{character_of}
-use Rattle.rds_text.specs.Quoted.{written}
 use Rattle.uecp_elements.specs.Grammar.{Rt, Text, spelling}
 use Rattle.titles.specs.Fitting.{AreFitted}
 use Rattle.titles.specs.Cut.{IsCut}
+use Rattle.titles.specs.Strings.{string_of}
 use Rattle.titles.specs.declared.title.Titles.{Titles as Options}
 use Rattle.titles.specs.declared.title.Title.{Title}
 use Rattle.titles.specs.declared.title.Title.TheVariants as gives
@@ -18,9 +18,9 @@ use Rattle.titles.specs.declared.title.Title.TheVariants as gives
 abbrev pub radio_text : (service : ℕ) → (text : List ℕ) → List ℕ
 radio_text service text = spelling (Rt 0 service (Text 1 text))
 
--- A text as it is written between quotes, in UTF-8.
+-- A text as a string of a phrase, in UTF-8.
 abbrev pub shown : (text : List ℕ) → List ℕ
-shown text = encode_utf8_all (flat_map written text)
+shown text = encode_utf8_all (string_of text)
 
 -- The characters of the title that a line has: the line without the white space at its start and at its end, what is
 -- no UTF-8 being a character that stands for that (Unicode, U+FFFD).

@@ -1,8 +1,7 @@
 //! What a line gives as a title (profile).
 ghost use Rattle.std.specs.Prelude.{◌≡◌, ◌≢◌, ◌⊎◌, ◌≤◌, ◌<◌, ◌++◌, [], ℕ, List, length, map, Some, chars};
-ghost use Rattle.std.specs.Prelude.{encode_utf8_all, flat_map, false, IfOk, IfErr, IfSome, IfNone};
+ghost use Rattle.std.specs.Prelude.{false, IfOk, IfErr, IfSome, IfNone};
 ghost use Rattle.std.specs.String.{string_bytes};
-ghost use Rattle.rds_text.specs.Quoted.{written};
 ghost use Rattle.uecp_text.specs.declared.text_fault.TextFault.TheVariants.{OutOfMemory};
 ghost use Rattle.phrase_scripts.specs.Lines.{IsUnsaid};
 ghost use Rattle.titles.specs.Titles.{GivesTitle, IsRefused, IsTitleOf, RefusesText, Stands, NoneStands, IsMadeToFit};
@@ -10,8 +9,9 @@ ghost use Rattle.titles.specs.Titles.{radio_text, shown};
 
 use crate::cut::cut;
 use crate::fitting::fit;
+use crate::texts::{characters_of, put_string};
 use phrase_scripts::{no_text, unsaid_at};
-use rds_text::{byte_of, written};
+use rds_text::byte_of;
 use std::alloc::{AllocError, Global};
 use std::str;
 use uecp_elements::{Element, RtPart, TEXT_MAX, push_element};
@@ -45,7 +45,7 @@ pub enum Title {
     Nothing,
     /// The message of the title as it stands.
     Stands(Message),
-    /// The message of the title that was made to fit, and its text as it is written between quotes.
+    /// The message of the title that was made to fit, and its text as a string of a phrase.
     Fits(Message, String),
 }
 
@@ -88,13 +88,6 @@ fn title_in(alloc: Global, titles: &Titles<'_>, text: &str) -> Result<Title, Tex
         Err(_) if titles.fit => fitted(alloc, titles, characters),
         Err(place) => Err(fault_at(characters, place)),
     }
-}
-
-/// The characters of a text.
-fn characters_of(alloc: Global, text: &str) -> Result<Vec<char>, AllocError>
-    ensures { IfOk result (λ characters. characters.items ≡ chars text.now) }
-{
-    text.chars().collect(alloc)
 }
 
 /// A text in the basic character set, as a RadioText has it; None where it has none.
@@ -180,25 +173,13 @@ fn message_of(service: u8, text: &[u8]) -> Message
     }
 }
 
-/// A text as it is written between quotes, in UTF-8.
+/// A text as a string of a phrase, in UTF-8.
 fn shown_of(alloc: Global, text: &[u8]) -> Result<String, AllocError>
     ensures { IfOk result (λ shown_text. string_bytes shown_text ≡ shown text.now) }
 {
     let mut shown = String::new(alloc);
-    for byte in text {
-        put_written(*byte, &mut shown)?;
-    }
+    put_string(text, &mut shown)?;
     Ok(shown)
-}
-
-/// Adds a byte as it is written between quotes.
-fn put_written(byte: u8, shown: &mut String) -> Result<(), AllocError>
-    ensures { IfOk result (λ _. string_bytes shown.new ≡ string_bytes shown.old ++ encode_utf8_all (written byte)) }
-{
-    for character in written(byte).as_slice() {
-        shown.push(*character)?;
-    }
-    Ok(())
 }
 
 /// The fault of a title whose character at this place is not in the set, or has no room.

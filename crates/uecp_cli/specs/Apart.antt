@@ -1,5 +1,5 @@
 -- What comes of a command by its options: groups on the air, a ladder, both ends, `send`, a display, conformance cases,
--- a page, quoted lines, and the page of phrases (profile).
+-- a page, scripts that are made to fit, quoted lines, and the page of phrases (profile).
 use Rattle.std.specs.Prelude.{◌≡◌, ◌⊎◌, ◌≤◌, ◌||◌, ℕ, Bool, true, false, IsTrue, List, Option, None, is_some}
 use Rattle.std.specs.Prelude.{MatchOption, Result}
 use Rattle.rds_store.specs.Value.{Store}
@@ -24,7 +24,8 @@ use Rattle.commands.specs.declared.line_options.LadderForm.{LadderForm}
 use Rattle.commands.specs.declared.line_options.LineOptions.{LineOptions}
 use Rattle.commands.specs.declared.job.Job.{Job}
 use Rattle.commands.specs.declared.job.Job.TheVariants.{AnswerWith, LineWith, Encoder, EncoderWith, Server}
-use Rattle.commands.specs.declared.job.Job.TheVariants.{ServerWith, Send, Receive, Conformance, Page, Quote, Phrases}
+use Rattle.commands.specs.declared.job.Job.TheVariants.{ServerWith, Send, Receive, Conformance, Page, MakeFitted, Quote}
+use Rattle.commands.specs.declared.job.Job.TheVariants.{Phrases}
 use Rattle.uecp_jobs.specs.Setups.{Options}
 use Rattle.uecp_jobs.specs.Setups as setup
 use Rattle.air_jobs.specs.AirJobs as air
@@ -36,6 +37,7 @@ use Rattle.receive_command.specs.Bits.{ReceivesBits}
 use Rattle.receive_command.specs.Receiving.{Receives, at_first}
 use Rattle.uecp_text.specs.Faults.{error_lines}
 use Rattle.phrase_commands.specs.Quoting.{QuotesLines, TellsPhrases}
+use Rattle.phrase_commands.specs.Scripts.{MakesFitted}
 use Rattle.uecp_text.specs.declared.run_fault.RunFault.TheVariants.{OutOfMemory}
 use Rattle.conformance_command.specs.Dialling.{DialsQuietly, DialsQuietlyAgain}
 use Rattle.conformance_command.specs.OverTcp.{RunsBuiltIn}
@@ -173,6 +175,8 @@ module _ {I J O K : Type 0} (remaining : I → Option (List ℕ))
         × (told' ≡ told))
         × (status ≡ 2 → held' ≡ held)
     ComesOf (Page o) status unread unread' held held' told told' = status ≤ 1 → EndsWith unread unread' status
+    ComesOf (MakeFitted region) status unread unread' held held' told told' =
+        MakesFitted region status unread unread' held held' told told'
     ComesOf Quote status unread unread' held held' told told' = QuotesLines status unread unread' held held' told told'
     ComesOf Phrases status unread unread' held held' told told' =
         TellsPhrases status held held' told told' × (unread' ≡ unread)

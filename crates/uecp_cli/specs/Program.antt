@@ -11,6 +11,7 @@ use Rattle.commands.specs.Jobs.{is_device}
 use Rattle.commands.specs.declared.job.Job.{Job}
 use Rattle.commands.specs.declared.job.Job.TheVariants.{AnswerWith, LineWith, Encoder, EncoderWith, Server, ServerWith}
 use Rattle.commands.specs.declared.job.Job.TheVariants.{Send, Watch, State, Receive, Conformance, Page, Quote, Phrases}
+use Rattle.commands.specs.declared.job.Job.TheVariants.{MakeFitted}
 use Rattle.rds_store.specs.Value.{Store}
 use Rattle.uecp_encoder.specs.State.{EncoderState}
 use Rattle.uecp_link.specs.Server.{ServerState}
@@ -30,7 +31,7 @@ use Rattle.notices.specs.Told.{Told, Says}
 
 -- ---- what comes of a job
 -- What comes of these is told by the calls that do them, and not here: groups on the air, a ladder, a device, what goes
--- on until it is stopped, conformance cases, quoted lines, and the page of phrases.
+-- on until it is stopped, conformance cases, scripts that are made to fit, quoted lines, and the page of phrases.
 abbrev pub IsApart : Job → Type 0
 IsApart (AnswerWith o) = is_some o.air ≡ true
 IsApart (LineWith o) = is_some o.ladder ≡ true
@@ -39,6 +40,7 @@ IsApart (Send o) = Unit {0}
 IsApart (Receive o) = Unit {0}
 IsApart (Conformance o) = Unit {0}
 IsApart (Page o) = Unit {0}
+IsApart (MakeFitted region) = Unit {0}
 IsApart Quote = Unit {0}
 IsApart Phrases = Unit {0}
 IsApart job = ⊥

@@ -38,9 +38,9 @@ use line_feed::{Arrival, LineFeed};
 use live_edges::{NoticeForm, Polled, Watch};
 use notices::{NoticesTo, fail};
 use page_server::run_page_over_tcp;
-use phrase_commands::{run_quote, tell_phrases};
+use phrase_commands::{run_make_fitted, run_quote, tell_phrases};
 use receive_command::{run_receive, run_receive_bits};
-use send_commands::{Dialling, Teller, run_send_over_tcp};
+use send_commands::{Dialling, run_send_over_tcp};
 use state_jobs::{OpenStates, run_server_in, tell_state};
 use std::alloc::Global;
 use std::fs::Files;
@@ -125,7 +125,7 @@ pub fn run_words<
         (map string_bytes words.now) (R.remaining reader.old) (R.remaining reader.new) (W.contents writer.old)
         (W.contents writer.new)) }
     // Whatever the status is, this comes of groups on the air, a ladder, an encoder, a display, conformance cases, a
-    // page, quoted lines, and the page of phrases; or the words gave no job.
+    // page, a script that is made to fit, quoted lines, and the page of phrases; or the words gave no job.
     ensures comes { AskForText (map string_bytes words.now)
         ⊎ (HasNoJob (map string_bytes words.now) errors.old errors.new
         ⊎ HasCome (ComesOf ⟦<TcpStream as Read>⟧.remaining
@@ -239,6 +239,7 @@ fn run_asked<
             hands.patience.limit(LOG_WAIT, false);
             run_page_over_tcp(alloc, options, reader, hands.input, errors, net)
         }
+        Job::MakeFitted(region) => run_make_fitted(alloc, *region, reader, writer, errors),
         Job::Quote => run_quote(alloc, reader, writer, errors),
         Job::Phrases => tell_phrases(writer, errors),
         Job::Answer { .. }
@@ -638,23 +639,15 @@ fn send_over_line<
     let (alloc, net, states, input) = machine;
     let watch = Watch::new(notice_form(options.form));
     let arrival = Polled::new(alloc, net, input, &watch, &mut *losses);
-    let mut teller = Teller::new(alloc, net, writer);
     let dialling = Dialling {
+        alloc,
         net,
         watch: &watch,
         states,
     };
     let status = run_send_over_tcp(
-        options,
-        reader,
-        arrival,
-        &mut teller,
-        errors,
-        dialling,
-        notices,
-        refusals,
+        options, reader, arrival, writer, errors, dialling, notices, refusals,
     );
-    let _writer = teller.finish();
     watch.finish();
     status
 }

@@ -14,7 +14,7 @@ use crate::clients::client::{Client, Phase, Site};
 use crate::clients::html::{HTML, POLICY};
 use crate::clients::request::Route;
 use crate::events::GAP;
-use crate::state::{has_stale, metrics_text, stale_text, state_text};
+use crate::state::{has_stale, history_text, metrics_text, stale_text, state_text};
 use http1::{BodySize, Header, WriteError};
 use std::alloc::Global;
 
@@ -54,6 +54,7 @@ impl Client {
             Route::Page => self.whole(200, b"OK", b"text/html; charset=utf-8", HTML.as_bytes()),
             Route::Events => self.open_events(asked.last, site),
             Route::State => self.tell_state(alloc, site),
+            Route::History => self.tell_history(alloc, site),
             Route::Metrics => self.tell_metrics(alloc, site),
             Route::Health => self.tell_health(alloc, site),
             Route::NotFound => self.whole(404, b"Not Found", PLAIN, b"no such page\n"),
@@ -105,6 +106,21 @@ impl Client {
     {
         match state_text(alloc, site.page, site.moment) {
             Ok(text) => self.whole(200, b"OK", b"application/json", text.as_bytes()),
+            Err(_) => self.no_memory(),
+        }
+    }
+
+    /// What changed in the last day as JSON.
+    fn tell_history(&mut self, alloc: Global, site: &Site<'_>) -> Result<(), WriteError>
+        requires { self.old.phase ≡ Phase.Closing }
+        ensures told { Tells (answer_text self.old.server (answer_of (source_of site.now) Route.History))
+            self.old.output.items self.new.output.items
+            ⊎ Tells (answer_text self.old.server no_memory) self.old.output.items self.new.output.items }
+        ensures closes { self.new.phase ≡ Phase.Closing }
+        ensures came { self.new.input.items ≡ self.old.input.items }
+    {
+        match history_text(alloc, site.page, site.moment.now) {
+            Ok(rows) => self.whole(200, b"OK", b"application/json", rows.as_bytes()),
             Err(_) => self.no_memory(),
         }
     }

@@ -3,8 +3,8 @@
 
 /// What a browser may load for it, and from where (Content Security Policy Level 3).
 pub(crate) const POLICY: &[u8] = b"default-src 'none'; \
-    script-src 'sha256-6v9Ta7VKyHIF3BCudUcmNb6HGD3RphYnTg6UwHdwlh4='; \
-    style-src 'sha256-Ti9syiHcuXrANDwTYKMKBap0vtLSxY2JclLvvugTnjs='; \
+    script-src 'sha256-m9yLPqlM2aTEkpVBpnI3qNgowHIoHqw4CeiNAFtrVl8='; \
+    style-src 'sha256-LE03M8nzWF/I3LhjHdHudRZuycJs/FWPwSivNVkAfMs='; \
     connect-src 'self'; \
     img-src data:; \
     base-uri 'none'; \
@@ -22,7 +22,7 @@ pub const HTML: &str = r##"<!DOCTYPE html>
 <title>uecp page</title>
 <style>
 :root { color-scheme: light dark; }
-body { font: 1rem/1.45 sans-serif; margin: 0 auto; max-width: 80rem; padding: 0.75rem; color: #111; background: #fff; }
+body { font: 1rem/1.45 sans-serif; margin: 0 auto; max-width: 118rem; padding: 0.75rem; color: #111; background: #fff; }
 h1 { font-size: 1.4rem; margin: 0 0 0.25rem; }
 h2 { font-size: 1.15rem; margin: 1.25rem 0 0.5rem; }
 #alarms { max-height: none; border: 0; }
@@ -30,6 +30,12 @@ h2 { font-size: 1.15rem; margin: 1.25rem 0 0.5rem; }
   font-size: 1rem; color: #5f1410; background: #fde8e6; border: 1px solid #b3261e; border-left-width: 6px;
   border-radius: 0.3rem; }
 #alarms span { flex: 1 1 12rem; min-width: 0; }
+#bands { max-height: none; border: 0; }
+#bands li { display: flex; flex-wrap: wrap; justify-content: space-between; gap: 0 0.75rem; margin: 0.5rem 0 0;
+  padding: 0.4rem 0.75rem; border: 0; border-radius: 0.3rem; font-size: 1.25rem; font-weight: bold; color: #1c1500;
+  background: #ffc400; }
+#bands span { flex: 1 1 12rem; min-width: 0; }
+#bands time { font-variant-numeric: tabular-nums; }
 #services, .cards { display: grid; gap: 0.75rem;
   grid-template-columns: repeat(auto-fill, minmax(min(100%, 20rem), 1fr)); }
 #services > section { min-width: 0; }
@@ -41,6 +47,7 @@ h2 { font-size: 1.15rem; margin: 1.25rem 0 0.5rem; }
 .minutes { display: block; width: 100%; max-width: 40rem; height: 1.75rem; margin: 0 0 0.5rem; fill: #05a;
   border-bottom: 1px solid #999; }
 article { border: 2px solid #555; border-radius: 0.4rem; padding: 0.6rem 0.8rem; min-width: 0; }
+article.on { border-color: #8a6a00; }
 .gone article { color: #333; border-style: dashed;
   background: repeating-linear-gradient(135deg, #ddd 0 10px, #ccc 10px 20px); }
 .known { font-weight: bold; margin: 0.2rem 0 0; }
@@ -49,9 +56,10 @@ h3, h4 { font-size: 1rem; font-weight: normal; margin: 0; }
 .name { font: bold 2rem/1.2 monospace; margin: 0.2rem 0; white-space: pre-wrap; overflow-wrap: anywhere; }
 .rt { font-family: monospace; margin: 0.2rem 0; white-space: pre-wrap; overflow-wrap: anywhere; min-height: 1.45em; }
 .rest { margin: 0.2rem 0 0; }
-.band { display: flex; justify-content: space-between; gap: 0.5rem; margin: 0.4rem 0; padding: 0.3rem 0.6rem;
-  border-radius: 0.3rem; color: #1c1500; background: #ffc400; font-weight: bold; }
-.band[hidden], .known[hidden], .end[hidden], .line [hidden] { display: none; }
+.history { margin: 0.4rem 0 0; }
+.history ol { max-height: 12rem; margin: 0.3rem 0 0; }
+.history li { grid-template-columns: auto 1fr; }
+.known[hidden], .end[hidden], .line [hidden] { display: none; }
 table { border-collapse: collapse; width: 100%; max-width: 34rem; }
 th, td { text-align: left; padding: 0.2rem 0.5rem 0.2rem 0; border-bottom: 1px solid #999; font-weight: normal; }
 td { text-align: right; font-variant-numeric: tabular-nums; }
@@ -77,6 +85,7 @@ button { font: inherit; padding: 0.25rem 0.75rem; }
 @media (prefers-color-scheme: dark) {
   body { color: #eee; background: #111; }
   article { border-color: #aaa; }
+  article.on { border-color: #ffc400; }
   .gone article { color: #ccc; background: repeating-linear-gradient(135deg, #333 0 10px, #2a2a2a 10px 20px); }
   .bad .line p { color: #ff8a80; }
   .minutes { fill: #7bf; }
@@ -95,6 +104,7 @@ button { font: inherit; padding: 0.25rem 0.75rem; }
 </header>
 <main>
 <div role="status" aria-label="Alarms"><ol id="alarms"></ol></div>
+<ol id="bands" aria-label="Announcements that are on"></ol>
 <h2>Services</h2>
 <div id="services"><p>nothing was told of a service yet</p></div>
 <h2>Counts</h2>
@@ -116,6 +126,8 @@ const AFTER = 200;
 const REPLAY = 2000;
 const OPEN_MAX = 128;
 const ASK_EACH = 10000;
+const HISTORY_EACH = 5000;
+const JITTER = 2000;
 const COUNTS = [["sent", "messages answered"], ["sent_refusals", "answered and refused"],
   ["refused_lines", "lines refused before they were sent"], ["messages", "messages received"],
   ["refusals", "received and refused"], ["repeats", "received again (answered by the kept reply)"],
@@ -139,8 +151,8 @@ const two = number => String(number).padStart(2, "0");
 const hexadecimal = number => two(number.toString(16).toUpperCase());
 const clock_of = time => two(time.getHours()) + ":" + two(time.getMinutes()) + ":" + two(time.getSeconds());
 let held = false, waiting = [], asked = false, again = false, before = [], opened = 0, unheard = null;
-let lines = null, unknown = new Set(), on_since = new Map(), empties = new Map();
-let limit = null, answered = 0;
+let lines = null, announced = new Map(), empties = new Map(), limit = null, answered = 0;
+let histories = new Map(), history_due = 0, history_asked = false, history_again = false;
 
 function set_attribute(element, name, text) {
   if (element.getAttribute(name) !== text) element.setAttribute(name, text);
@@ -178,7 +190,7 @@ const ELEMENTS = {
   ps: e => ["service", "name " + quoted(e.text)],
   traffic: e => ["traffic", "TP " + (e.tp ? "on" : "off") + ", TA " + (e.ta ? "on" : "off")],
   ms: e => ["service", e.music ? "music" : "speech"],
-  pty: e => ["service", "programme type " + type_of(e.type)],
+  pty: e => ["type", "programme type " + type_of(e.type)],
   rt: e => ["RadioText", e.clear ? "RadioText cleared" : "RadioText " + quoted(e.text)],
   select: e => ["service", "set " + e.set + " selected"],
   group: e => ["group", "a group of type " + e.type],
@@ -206,8 +218,8 @@ function refused_said(o) {
   return joined_by(": ", "line " + place + " was refused", o.meaning, o.text);
 }
 function answer_said(o) {
-  const words = joined_by(": ", "message " + o.number + " " + coded(o), words_of(parts_of(o)));
-  return [about_of(o), words, o.code !== "00"];
+  const parts = parts_of(o), words = joined_by(": ", "message " + o.number + " " + coded(o), words_of(parts));
+  return [o.code === "00" && parts.length > 0 ? parts[0][1][0] : about_of(o), words, o.code !== "00"];
 }
 const ANSWERED = {
   new: o => [about_of(o), coded(o) + (o.sent === false ? ", reply not sent" : ""), o.code !== "00" || o.sent === false],
@@ -243,7 +255,7 @@ const KINDS = {
   not_for_me: () => ["passed over", "it is for another encoder", false],
   dropped: o => ["line", "a segment that is no frame: " + o.name, true],
   connection: o => ["connection", "connection " + o.number, false],
-  connection_end: o => ["connection", end_of(o), o.end !== "closed"],
+  connection_end: o => [o.end === "state_failed" ? "save" : "connection", end_of(o), o.end !== "closed"],
   progress: o => ["connection", whole(o.taken, "message", "messages") + " taken, " + o.outstanding + " wait", false],
   joined: () => ["connection", "the encoder was joined", false],
   not_joined: () => ["connection", "the encoder could not be joined", true],
@@ -263,7 +275,9 @@ const KINDS = {
   lost: () => ["connection", "the connection is lost", true],
   answers_nothing: () => ["connection", "the encoder answers nothing: new, or deaf", true],
   line_given_up: () => ["connection", "given up", true],
+  ended: o => ["connection", ended_with(o.status), o.status !== 0],
 };
+function ended_with(status) { return "sending ended" + (typeof status === "number" ? " with status " + status : ""); }
 function why_of(o) { return typeof o.why === "string" ? ": " + o.why : ""; }
 function other_of(o) {
   const kind = String(o.kind).replaceAll("_", " ");
@@ -310,7 +324,7 @@ function is_in_empties(said) {
   return true;
 }
 const LINKS = { connected: "connected", no_connection: "no connection", lost: "the connection is lost",
-  answers_nothing: "answers nothing", line_given_up: "given up" };
+  answers_nothing: "answers nothing", line_given_up: "given up", ended: "sending ended" };
 function is_bad_link(l) { return l.link !== null && l.link !== "connected"; }
 function link_words(l) { return l.link === null ? "" : joined_by(" ", LINKS[l.link] ?? l.link, since_of(l.since)); }
 // When a line was told of last, by this browser's clock: as the page says it now, in whole seconds; where nothing more
@@ -331,7 +345,9 @@ function told_since(l) { return told_at("since ", new Date(l.told).toISOString()
 function alarms_of(lines) {
   const alarms = [];
   for (const l of lines) {
-    if (is_bad_link(l)) alarms.push([l.line, LINKS[l.link] ?? l.link, since_of(l.since)]);
+    if (is_bad_link(l)) {
+      alarms.push([l.line, l.link === "ended" ? ended_with(l.status) : LINKS[l.link] ?? l.link, since_of(l.since)]);
+    }
     if (l.refused !== null) {
       alarms.push([l.line, "a message was refused: " + (l.refused.meaning ?? "?"), since_of(l.refused.time)]);
     }
@@ -357,17 +373,21 @@ function show_title(alarms, some) {
   const title = joined_by(" \u2013 ", words, "uecp page");
   if (document.title !== title) document.title = title;
 }
+// A band across the page for each announcement that is on, with its time, which counts on by itself.
 function show_bands() {
-  let some = false;
-  for (const card of document.querySelectorAll("article")) {
-    const since = on_since.get(card.dataset.key), band = card.children[1];
-    band.hidden = since === undefined;
-    if (since === undefined) continue;
-    some = true;
-    const seconds = Math.floor((Date.now() - since) / 1000);
-    set_text(band.children[1], since === null ? "" : Math.floor(seconds / 60) + ":" + two(seconds % 60));
-  }
-  show_title(at("alarms").children.length, some);
+  const list = at("bands"), bands = [...announced.values()];
+  bands.forEach(({ words, since }, place) => {
+    if (list.children[place] === undefined) {
+      const row = made("li", "", "");
+      row.append(made("span", "", ""), made("time", "", ""));
+      list.append(row);
+    }
+    const seconds = Math.max(Math.floor((Date.now() - since) / 1000), 0), row = list.children[place];
+    set_text(row.children[0], words);
+    set_text(row.children[1], Math.floor(seconds / 60) + ":" + two(seconds % 60));
+  });
+  while (list.children.length > bands.length) list.lastElementChild.remove();
+  show_title(at("alarms").children.length, bands.length > 0);
 }
 function new_section(l) {
   const section = made("section", "", ""), head = made("div", "line", "");
@@ -387,45 +407,126 @@ function show_minutes(chart, minutes) {
   set_attribute(chart.children[1], "d", bars);
 }
 function new_card(l) {
-  const card = made("article", "", ""), band = made("p", "band", "");
-  band.append(made("span", "", "Traffic announcement"), made("span", "", ""));
-  card.append(made(l.line === "" ? "h3" : "h4", "", ""), band, made("p", "name", ""), made("p", "rt", ""));
-  card.append(made("p", "rest", ""), made("p", "known", ""), made("p", "end", "as the studio was answered"));
+  const card = made("article", "", ""), history = made("details", "history", ""), rows = made("ol", "", "");
+  rows.tabIndex = 0;
+  history.append(made("summary", "", "history"), rows);
+  history.addEventListener("toggle", () => { show_history(card); ask_history(); });
+  card.append(made(l.line === "" ? "h3" : "h4", "", ""), made("p", "name", ""), made("p", "rt", ""));
+  card.append(made("p", "rest", ""), made("p", "known", ""), made("p", "end", "as the studio was answered"), history);
   return card;
 }
-// A traffic announcement is shown as on where that is known, and with its time where it was seen to begin.
-function keep_band(key, is_on, was_known) {
-  if (!is_on) on_since.delete(key);
-  else if (!on_since.has(key)) on_since.set(key, was_known ? Date.now() : null);
+// When something began that the page says was so many seconds ago: told twice it is the same, if it differs by little.
+function began(told, seconds, before) {
+  const since = told - 1000 * seconds;
+  return before !== undefined && Math.abs(since - before) < JITTER ? Math.min(since, before) : since;
 }
-function show_cards(l, box, gone, was_known) {
+function show_cards(l, box, gone, bands) {
   l.services.forEach((s, place) => {
     if (box.children[place] === undefined) box.append(new_card(l));
-    const card = box.children[place], title = title_of(s);
-    card.dataset.key = JSON.stringify([l.line, s.set, s.main || s.service]);
-    keep_band(card.dataset.key, s.ta === true && gone === null, was_known);
+    const card = box.children[place], title = title_of(s), key = JSON.stringify([l.line, s.set, s.service]);
+    const is_on = s.announced !== null && gone === null;
+    if (is_on) {
+      const words = joined_by(" \u00B7 ", "Traffic announcement", l.line, (s.name ?? "").trim() || title);
+      bands.set(key, { words, since: began(answered, s.announced, announced.get(key)?.since) });
+    }
+    card.classList.toggle("on", is_on);
     set_text(card.children[0], title);
-    set_text(card.children[2], s.name ?? "");
-    set_text(card.children[3], s.rt ?? "");
-    set_text(card.children[4], rest_of(s));
-    set_text(card.children[5], gone ?? "");
-    card.children[5].hidden = gone === null;
-    card.children[6].hidden = l.end !== "studio";
+    set_text(card.children[1], s.name ?? "");
+    set_text(card.children[2], s.rt ?? "");
+    set_text(card.children[3], rest_of(s));
+    set_text(card.children[4], gone ?? "");
+    card.children[4].hidden = gone === null;
+    card.children[5].hidden = l.end !== "studio";
+    set_attribute(card.children[6].children[1], "aria-label", "History of " + title + ", the newest first");
+    if (card.dataset.key !== key) {
+      card.dataset.key = key;
+      show_history(card);
+    }
   });
-  while (box.children.length > l.services.length) {
-    on_since.delete(box.lastElementChild.dataset.key);
-    box.lastElementChild.remove();
+  while (box.children.length > l.services.length) box.lastElementChild.remove();
+}
+// What changed with a row, in words.
+function changed_words(row, before) {
+  if (row.rt === null && row.tp === null && row.ta === null) return "nothing is shown any more";
+  const flag = value => value === null ? "not known" : value ? "on" : "off";
+  const text = row.rt === null ? "RadioText not known" : row.rt === "" ? "no RadioText" : "RadioText " + quoted(row.rt);
+  return joined_by(", ", row.rt === before.rt ? "" : text, row.tp === before.tp ? "" : "TP " + flag(row.tp),
+    row.ta === before.ta ? "" : "TA " + flag(row.ta));
+}
+const NOTHING = { rt: null, tp: null, ta: null };
+// The rows of each service, the oldest first: when each came by this browser's clock, and its words.
+function take_histories(told, now) {
+  const taken = new Map();
+  for (const l of told) {
+    for (const row of l.rows) {
+      const key = JSON.stringify([l.line, row.set, row.service]), rows = taken.get(key) ?? [];
+      rows.push({ row, came: now - 1000 * row.ago, words: changed_words(row, rows[rows.length - 1]?.row ?? NOTHING) });
+      taken.set(key, rows);
+    }
+  }
+  for (const [key, rows] of taken) settle(rows, histories.get(key) ?? []);
+  histories = taken;
+}
+function settle(rows, before) {
+  let place = 0;
+  for (const one of rows) {
+    const is_it = other => other.words === one.words && Math.abs(other.came - one.came) < JITTER;
+    const found = before.findIndex((other, at) => at >= place && is_it(other));
+    if (found < 0) continue;
+    one.came = Math.min(one.came, before[found].came);
+    place = found + 1;
   }
 }
+// The rows of a card's service, the newest first; those that stand there stay.
+function show_history(card) {
+  const history = card.children[6], list = history.children[1];
+  if (!history.open) return list.replaceChildren();
+  const rows = (histories.get(card.dataset.key) ?? []).map(one => {
+    const time = told_at("", new Date(one.came).toISOString(), clock_of);
+    return { time, words: one.words, key: time + " " + one.words };
+  }).reverse();
+  if (rows.length === 0) rows.push({ time: "", words: "nothing changed in the last day", key: "" });
+  const more = rows.length - list.children.length;
+  const is_end = more >= 0 && [...list.children].every((row, place) => row.dataset.key === rows[more + place].key);
+  const fresh = (is_end ? rows.slice(0, more) : rows).map(({ time, words, key }) => {
+    const row = made("li", "", "");
+    row.dataset.key = key;
+    row.append(made("time", "", time), made("span", "", words));
+    return row;
+  });
+  if (is_end) list.prepend(...fresh); else list.replaceChildren(...fresh);
+}
+// The history is asked for while a card shows its own, once in so many seconds at most.
+function ask_history() {
+  if (document.querySelector(".history[open]") === null) return;
+  history_again = history_asked;
+  if (history_asked) return;
+  history_asked = true;
+  setTimeout(fetch_history, Math.max(history_due - Date.now(), 0));
+}
+async function fetch_history() {
+  history_due = Date.now() + HISTORY_EACH;
+  history_again = false;
+  try {
+    const answer = await fetch("/history", { cache: "no-store" }), told = await answer.json();
+    take_histories(told.lines, Date.now());
+    for (const card of document.querySelectorAll("article")) show_history(card);
+  } catch (error) {
+    history_again = true;
+  }
+  history_asked = false;
+  if (history_again) ask_history();
+}
 // Of a line that is not connected, of one of which nothing was told for too long, and of all where nothing is heard, it
-// is not known what is on the air.
+// is not known what is on the air. Where sending ended it is, if the encoder's end tells it.
 function gone_of(l) {
   const silence = is_stale(l) ? "nothing was told for " + whole(silent_of(l), "second", "seconds") : "";
-  if (is_bad_link(l)) return joined_by(": ", joined_by(" ", "not known", since_of(l.since)), silence);
+  const is_ended = l.link === "ended" && l.end === "encoder";
+  if (is_bad_link(l) && !is_ended) return joined_by(": ", joined_by(" ", "not known", since_of(l.since)), silence);
   if (silence) return "not known " + told_since(l) + ": " + silence;
   return unheard === null ? null : joined_by(" ", "not known", since_of(unheard));
 }
-function show_line(l, place, is_first) {
+function show_line(l, place, bands) {
   const box = at("services"), gone = gone_of(l);
   let section = [...box.children].find(section => section.dataset.line === l.line);
   if (section === undefined) section = new_section(l);
@@ -435,14 +536,14 @@ function show_line(l, place, is_first) {
   section.classList.toggle("gone", gone !== null);
   set_text(section.children[0].children[1], joined_by(", ", link_words(l), heard_of(l)));
   show_minutes(section.children[1], l.minutes);
-  show_cards(l, section.children[2], gone, !is_first && !unknown.has(l.line));
-  if (gone === null) unknown.delete(l.line); else unknown.add(l.line);
+  show_cards(l, section.children[2], gone, bands);
 }
 function show_lines(told) {
-  const box = at("services"), is_first = lines === null;
+  const box = at("services"), bands = new Map();
   lines = told.sort((a, b) => a.line < b.line ? -1 : a.line > b.line ? 1 : 0);
   if (lines.length > 0) while (box.firstElementChild?.tagName === "P") box.firstElementChild.remove();
-  lines.forEach((l, place) => show_line(l, place, is_first));
+  lines.forEach((l, place) => show_line(l, place, bands));
+  announced = bands;
   while (lines.length > 0 && box.children.length > lines.length) box.lastElementChild.remove();
   show_alarms(alarms_of(lines));
   show_bands();
@@ -483,6 +584,7 @@ async function ask() {
     state.lines.forEach(keep_told);
     show_lines(state.lines);
     show_counts(counts_of(state));
+    ask_history();
   } catch (error) {
     again = true;
   }
@@ -523,7 +625,6 @@ source.onerror = () => {
 source.onmessage = event => {
   const said = said_of(event.data);
   if (!is_in_empties(said) && said.kind !== "time") note(said);
-  if (said.kind === "store") unknown.add(said.line);
   set_text(at("heard"), "the last event: " + (said.time || "it is not known when"));
   ask();
 };

@@ -12,6 +12,8 @@ pub enum Route {
     Events,
     /// What is shown, as JSON.
     State,
+    /// What changed in the last day, as JSON.
+    History,
     /// The counts, for monitoring systems.
     Metrics,
     /// Whether it is well, for whoever looks after the process.
@@ -45,6 +47,8 @@ fn page_of(target: &[u8]) -> Route
         Route::Events
     } else if target == b"/state".as_slice() {
         Route::State
+    } else if target == b"/history".as_slice() {
+        Route::History
     } else if target == b"/metrics".as_slice() {
         Route::Metrics
     } else if target == b"/healthz".as_slice() {

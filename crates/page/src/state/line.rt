@@ -1,11 +1,12 @@
 //! What is known of one control line (profile).
-ghost use Rattle.std.specs.Prelude.{◌≡◌, OnOk, string_bytes};
+ghost use Rattle.std.specs.Prelude.{◌≡◌, OnOk, map, string_bytes};
 ghost use Rattle.serde_json.specs.View.{view};
-ghost use Rattle.page.specs.StateView.{air_of, line_of};
-ghost use Rattle.page.specs.ControlLine.{new_line, is_named, line_after, air_shown};
+ghost use Rattle.page.specs.StateView.{air_of, line_of, seen_of};
+ghost use Rattle.page.specs.ControlLine.{new_line, is_named, line_after, air_shown, taken, noted};
 ghost use Rattle.page.specs.Answered.{is_of_encoder};
 
 use crate::state::air::Air;
+use crate::state::announced::{Announcement, announced_after};
 use crate::state::counts::{Counts, is_kind};
 use crate::state::link::{
     Linked, Refusal, RefusedLine, failed_after, heard_after, linked_after, refused_after,
@@ -13,6 +14,8 @@ use crate::state::link::{
 };
 use crate::state::minutes::Minutes;
 use crate::state::row::{is_shown, is_stored};
+use crate::state::rows::Changes;
+use crate::state::seen::{Seen, each_seen};
 use serde_json::Value;
 use std::alloc::{AllocError, Global};
 
@@ -43,6 +46,10 @@ pub(crate) struct Line {
     pub(crate) told_at: u64,
     /// How many messages came in each minute.
     pub(crate) minutes: Minutes,
+    /// The rows of its history that are kept.
+    pub(crate) changes: Changes,
+    /// Which announcements are on.
+    pub(crate) announced: Vec<Announcement>,
 }
 
 impl Line {
@@ -63,6 +70,8 @@ impl Line {
             heard: None,
             told_at: 0,
             minutes: Minutes::new(),
+            changes: Changes::new(alloc),
+            announced: Vec::new(alloc),
         }
     }
 
@@ -82,6 +91,20 @@ impl Line {
           came = came;
         }) (line_of self.old)) }
     {
+        let before = each_seen(alloc, self.air().rows())?;
+        self.take_told(alloc, value, came)?;
+        self.note(alloc, came, before.as_slice())
+    }
+
+    /// Takes what it tells.
+    ///
+    /// Errors: where memory is refused it may have been taken in part.
+    fn take_told(&mut self, alloc: Global, value: Value, came: u64) -> Result<(), AllocError>
+        ensures { OnOk result (line_of self.new ≡ taken (record {
+          object = view value;
+          came = came;
+        }) (line_of self.old)) }
+    {
         self.told_at = came;
         self.minutes.take(&value, came);
         self.counts.count(&value);
@@ -93,6 +116,22 @@ impl Line {
         self.has_encoder = is_of_encoder(&value) || self.has_encoder;
         self.answered.take_answer(alloc, &value)?;
         self.air.take(alloc, value)
+    }
+
+    /// Notes what changed on the air, as it is shown, by an object that came then; this was shown before it.
+    ///
+    /// Errors: where memory is refused it may have been noted in part.
+    fn note(&mut self, alloc: Global, came: u64, before: &[Seen]) -> Result<(), AllocError>
+        ensures { OnOk result (line_of self.new ≡ noted came (map seen_of before.now) (line_of self.old)) }
+    {
+        let behind = each_seen(alloc, self.air().rows())?;
+        self.announced = announced_after(
+            alloc,
+            came,
+            behind.as_slice(),
+            self.announced.as_slice(),
+        )?;
+        self.changes.note(alloc, came, before, behind.as_slice())
     }
 
     /// What is shown as on the air: what the encoder's end tells, where that told anything; else as the studio was

@@ -23,6 +23,8 @@ pub(crate) enum Link {
     AnswersNothing,
     /// No more are made.
     GivenUp,
+    /// Sending ended.
+    Ended,
 }
 
 /// What was told of the connection last.
@@ -32,6 +34,8 @@ pub(crate) struct Linked {
     pub(crate) link: Link,
     /// The time that was told when it began to be so.
     pub(crate) since: Option<String>,
+    /// The status that was told with it, as where sending ended.
+    pub(crate) status: Option<u64>,
 }
 
 /// A message that was refused.
@@ -69,6 +73,7 @@ impl Link {
             Link::Lost => "lost",
             Link::AnswersNothing => "answers_nothing",
             Link::GivenUp => "line_given_up",
+            Link::Ended => "ended",
         }
     }
 
@@ -78,7 +83,8 @@ impl Link {
     {
         match self {
             Link::Connected => false,
-            Link::NoConnection | Link::Lost | Link::AnswersNothing | Link::GivenUp => true,
+            Link::NoConnection | Link::Lost | Link::AnswersNothing | Link::GivenUp | Link::Ended =>
+                true,
         }
     }
 
@@ -97,6 +103,8 @@ impl Link {
             Some(Link::AnswersNothing)
         } else if is_kind(value, "line_given_up") {
             Some(Link::GivenUp)
+        } else if is_kind(value, "ended") {
+            Some(Link::Ended)
         } else if was_bad && is_heard(value) {
             Some(Link::Connected)
         } else {
@@ -134,7 +142,12 @@ pub(crate) fn linked_after(
     match Link::told_by(value, was_bad(&before)) {
         Some(link) => {
             let since = since_when(alloc, link, value, before)?;
-            Ok(Some(Linked { link, since }))
+            let status = number_at(value, "status");
+            Ok(Some(Linked {
+                link,
+                since,
+                status,
+            }))
         }
         None => Ok(before),
     }

@@ -4,12 +4,14 @@ ghost use Rattle.serde_json.specs.View.{view, members_view};
 ghost use Rattle.serde_json.specs.Written.{compact_text};
 ghost use Rattle.page.specs.Texts.{text_data, flag_data, number_data, service_data, counts_data};
 ghost use Rattle.page.specs.Texts.{services_data, link_data, since_data, refused_data, line_data, lines_data};
-ghost use Rattle.page.specs.Texts.{state_data, end_of, line_head, refused_line_data, numbers_data};
+ghost use Rattle.page.specs.Texts.{state_data, end_of, line_head, refused_line_data, numbers_data, status_data};
+ghost use Rattle.page.specs.Texts.{announced_data};
 ghost use Rattle.page.specs.Minutes.{last_hour};
 ghost use Rattle.serde_json.specs.Data.{array, object, string, no_members};
 ghost use Rattle.page.specs.StateView.{service_of, counts_of, linked_of, refusal_of, refused_line_of, line_of};
 ghost use Rattle.page.specs.StateView.{state_of, minutes_of};
 
+use crate::state::announced::{Announcement, seconds_since, since_of};
 use crate::state::counts::Counts;
 use crate::state::line::Line;
 use crate::state::link::{Linked, Refusal, RefusedLine};
@@ -21,7 +23,7 @@ use serde_json::{Map, Value, json, put};
 use std::alloc::{AllocError, Global};
 
 /// A text, or null.
-fn text_value(alloc: Global, text: &Option<String>) -> Result<Value, AllocError>
+pub(crate) fn text_value(alloc: Global, text: &Option<String>) -> Result<Value, AllocError>
     ensures { IfOk result (λ value. view value ≡ text_data (option_map string_bytes text.now)) }
 {
     match text {
@@ -31,7 +33,7 @@ fn text_value(alloc: Global, text: &Option<String>) -> Result<Value, AllocError>
 }
 
 /// A truth value, or null.
-fn flag_value(flag: Option<bool>) -> Value
+pub(crate) fn flag_value(flag: Option<bool>) -> Value
     ensures { view result ≡ flag_data flag }
 {
     match flag {
@@ -50,20 +52,44 @@ fn number_value(number: Option<u64>) -> Value
     }
 }
 
-/// A service as an object.
-fn service_value(alloc: Global, row: &Row) -> Result<Value, AllocError>
-    ensures { IfOk result (λ value. view value ≡ service_data (service_of row.now)) }
+/// For how many whole seconds an announcement of a service is on, or null.
+fn announced_value(now: u64, announced: &[Announcement], row: &Row) -> Value
+    ensures { view result ≡ announced_data now announced.now (service_of row.now) }
+{
+    match since_of(announced, row.set, row.service) {
+        Some(since) => Value::from(seconds_since(now, since)),
+        None => Value::Null,
+    }
+}
+
+/// A service as an object; of these announcements those that are its own are on.
+fn service_value(
+    alloc: Global,
+    now: u64,
+    announced: &[Announcement],
+    row: &Row,
+) -> Result<Value, AllocError>
+    ensures { IfOk result (λ value. view value ≡ service_data now announced.now (service_of row.now)) }
 {
     let mut members = Map::new(alloc);
-    put_service(alloc, row, &mut members)?;
+    put_service(alloc, now, announced, row, &mut members)?;
     Ok(Value::Object(members))
 }
 
 /// Puts the members of a service into an object that has none.
-fn put_service(alloc: Global, row: &Row, members: &mut Map<String, Value>) -> Result<(), AllocError>
+fn put_service(
+    alloc: Global,
+    now: u64,
+    announced: &[Announcement],
+    row: &Row,
+    members: &mut Map<String, Value>,
+) -> Result<(), AllocError>
     requires empty { members_view members.old.entries ≡ no_members }
-    ensures { OnOk result (object (members_view members.new.entries) ≡ service_data (service_of row.now)) }
+    ensures { OnOk result (object (members_view members.new.entries)
+        ≡ service_data now announced.now (service_of row.now)) }
 {
+    let seconds = announced_value(now, announced, row);
+    put(members, alloc, "announced", seconds)?;
     put(members, alloc, "main", Value::Bool(row.is_main))?;
     put(members, alloc, "name", text_value(alloc, &row.name)?)?;
     put(members, alloc, "pi", text_value(alloc, &row.pi)?)?;
@@ -123,13 +149,19 @@ fn put_counts(
     Ok(())
 }
 
-/// Services as an array.
-fn services_value(alloc: Global, rows: &[Row]) -> Result<Value, AllocError>
-    ensures { IfOk result (λ value. view value ≡ array (services_data (map service_of rows.now))) }
+/// Services as an array; of these announcements those that are their own are on.
+fn services_value(
+    alloc: Global,
+    now: u64,
+    announced: &[Announcement],
+    rows: &[Row],
+) -> Result<Value, AllocError>
+    ensures { IfOk result (λ value. view value
+        ≡ array (services_data now announced.now (map service_of rows.now))) }
 {
     let mut list = Vec::new(alloc);
     for row in rows {
-        list.push(service_value(alloc, row)?)?;
+        list.push(service_value(alloc, now, announced, row)?)?;
     }
     Ok(Value::Array(list))
 }
@@ -151,6 +183,16 @@ fn since_value(alloc: Global, linked: &Option<Linked>) -> Result<Value, AllocErr
     match linked {
         Some(linked) => text_value(alloc, &linked.since),
         None => Ok(Value::Null),
+    }
+}
+
+/// The status that was told with it, or null.
+fn status_value(linked: &Option<Linked>) -> Value
+    ensures { view result ≡ status_data (option_map linked_of linked.now) }
+{
+    match linked {
+        Some(linked) => number_value(linked.status),
+        None => Value::Null,
     }
 }
 
@@ -259,7 +301,8 @@ fn put_rest(
     requires head { members_view members.old.entries ≡ line_head (line_of line.now) }
     ensures { OnOk result (object (members_view members.new.entries) ≡ line_data now (line_of line.now)) }
 {
-    let services = services_value(alloc, line.air().rows())?;
+    let announced = line.announced.as_slice();
+    let services = services_value(alloc, now, announced, line.air().rows())?;
     put(
         members,
         alloc,
@@ -281,6 +324,7 @@ fn put_rest(
     put(members, alloc, "services", services)?;
     put(members, alloc, "silent", Value::from(silent(now, line)))?;
     put(members, alloc, "since", since_value(alloc, &line.linked)?)?;
+    put(members, alloc, "status", status_value(&line.linked))?;
     Ok(())
 }
 

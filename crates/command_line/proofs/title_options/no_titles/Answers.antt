@@ -1,11 +1,7 @@
-use Rattle.std.proofs.Common.{◌≡◌, sym, ◌∙◌, inl, inr, subst, codes, true, false}
-use Rattle.std.specs.Prelude.{None}
-use Rattle.clap.specs.Words.{found_of, one_of, rows_of}
-use Rattle.command_line.specs.OptionTexts.{IsFlag}
+use Rattle.std.proofs.Common.{◌≡◌, sym, ◌∙◌, inl, inr}
 use Rattle.command_line.proofs.TitleTexts.{no_text}
 use Rattle.command_line.proofs.title_options.no_titles.Goals.{then-prefix-via-then-prefix}
 use Rattle.command_line.proofs.title_options.no_titles.Goals.{then-prefix-via-else-prefix+then-service}
-use Rattle.command_line.proofs.title_options.no_titles.Goals.{then-prefix-via-else-prefix+else-service+then-flag_of}
 use Rattle.command_line.proofs.title_options.no_titles.Goals as goal
 
 pub returns-then-prefix-clause-refused : goal.returns-then-prefix-clause-refused
@@ -19,16 +15,7 @@ returns-then-prefix-clause-refused c =
       | then-prefix-via-else-prefix+then-service w ↦
           inr (
             c.refusal.ensures,
-            inr (inl (c.requires, inr (inl (sym c.has_word-service.ensures ∙ w.if-service.true)))),
-          )
-      | then-prefix-via-else-prefix+else-service+then-flag_of w ↦
-          inr (
-            c.refusal.ensures,
-            inr (inl (
-              c.requires,
-              inr (inr (subst (IsFlag (one_of (codes "fit") (rows_of (found_of c.args.found.now)))) w.if-flag_of.true
-                  w.flag_of.ensures)),
-            )),
+            inr (inl (c.requires, inr (sym c.has_word-service.ensures ∙ w.if-service.true))),
           )
     ]
 
@@ -37,5 +24,4 @@ returns-clause-titles c = (
   c.requires,
   no_text _ (sym c.has_word-prefix.ensures ∙ c.if-prefix.false),
   no_text _ (sym c.has_word-service.ensures ∙ c.if-service.false),
-  subst (IsFlag (one_of (codes "fit") (rows_of (found_of c.args.found.now)))) c.if-flag_of.false c.flag_of.ensures,
 )

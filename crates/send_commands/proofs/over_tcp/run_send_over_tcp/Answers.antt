@@ -1,20 +1,14 @@
-use Rattle.std.proofs.Common.{inl, ◌∙◌}
+use Rattle.std.proofs.Common.{◌≡◌, sym, ap, ◌∙◌}
 use Rattle.send_commands.proofs.over_tcp.run_send_over_tcp.Goals as goal
 
-pub returns-in-Ok-ledger_of-clause-sent : goal.returns-in-Ok-ledger_of-clause-sent
-returns-in-Ok-ledger_of-clause-sent g c =
-    inl (
-      c.as_slice-station.result.now,
-      c.patient_of-patient.result,
-      c.run_send-status.new.connect,
+pub returns : goal.returns
+returns g c =
+    let told = c.new-teller.ensures in
+    let back = c.writer-1.given.1 (sym (ap (λ t. t.writer) told) ∙ sym c.run_over_tcp-status.ensures.writer
+    ∙ sym c.finish-writer.ensures.same) in
+    let out = sym (ap g.W.Write.contents back) in (
       _,
-      c.run_send-status.new.feed,
-      c.station_of.new.errors,
-      c.run_send-status.new.errors,
-      c.patient_of-patient.ensures,
-      λ none. let begun = c.in-Ok.ensures none in
-          (c.as_slice-station.ensures.value ∙ begun.0, begun.2),
-      c.in-Ok-ledger_of.ensures.there,
-      rw (c.new-feed.ensures, c.in-Ok-new.ensures.begun) at c.run_send-status.ensures.sent,
-      rw c.fault.ensures at c.say_fault.ensures,
+      _,
+      rw told at c.run_over_tcp-status.ensures.sent,
+      rw (c.finish-writer.ensures.held, out) at c.tell_ended.ensures,
     )

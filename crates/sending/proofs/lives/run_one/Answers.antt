@@ -1,7 +1,7 @@
 use Rattle.std.proofs.Common.{◌≡◌, refl, sym, ap, subst, ◌∙◌}
 use Rattle.uecp_net.specs.Sending.{SenderState}
 use Rattle.kept_jobs.proofs.Public.{starts_so}
-use Rattle.sending.specs.Run.{FromFeed, RunsLive, live}
+use Rattle.sending.specs.Run.{RunsLive, live}
 use Rattle.sending.proofs.lives.run_one.Goals as goal
 
 pub returns-clause-runs : goal.returns-clause-runs
@@ -23,15 +23,16 @@ returns-clause-runs g c =
       sent.new.sender.sender.server,
       (
         start.loan,
-        live sent.new.sender sent.new.keeper sent.new.intake sent.new.teller sent.new.course,
-        subst (λ s. RunsLive (FromFeed g.F.Feed.remaining g.F.Feed.takes g.F.Feed.says g.F.Feed.passes)
+        live sent.new.sender sent.new.keeper (g.S.Source.at sent.new.source) sent.new.teller sent.new.course,
+        subst (λ s. RunsLive (g.S.Source.takes (g.S.Source.how c.args.source.now))
             g.C.Connections.opens
             g.C.Connections.closes g.C.Input.Read.remaining
             g.C.Output.Write.contents
             k.leaves k.is_clean k.saves
             k.fails c.args.options.now c.args.due
-            (live s c.args.keeper.now c.args.intake.now c.args.teller.now c.args.course.now)
-            (live sent.new.sender sent.new.keeper sent.new.intake sent.new.teller sent.new.course) sent.result)
+            (live s c.args.keeper.now (g.S.Source.at c.args.source.now) c.args.teller.now c.args.course.now)
+            (live sent.new.sender sent.new.keeper (g.S.Source.at sent.new.source) sent.new.teller sent.new.course)
+            sent.result)
             start_is sent.ensures.runs,
         (end, hangs_up, c.connect-1.given.1 (sym given ∙ sym sent.ensures.loan ∙ sym same) ∙ end_is),
         refl,

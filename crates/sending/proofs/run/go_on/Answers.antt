@@ -6,7 +6,7 @@ pub returns-clause-runs : goal.returns-clause-runs
 returns-clause-runs g c =
     let settled = c.settle_first.new in
     inl (
-      live settled.sender settled.keeper c.args.intake.now settled.teller settled.course,
+      live settled.sender settled.keeper (g.S.Source.at c.args.source.now) settled.teller settled.course,
       (c.in_ok-settle_first.ensures.settles, refl, c.in_ok-settle_first.ensures.behind),
       c.run_turns.ensures.runs,
     )

@@ -5,17 +5,17 @@ pub returns-in-Err-clause-stopped : goal.returns-in-Err-clause-stopped
 returns-in-Err-clause-stopped g c = (
   c.take-after.result,
   record {
-    messages = c.take-after.new.batch.items;
+    messages = (g.S.Source.taken c.take-after.new.self);
     taken = c.take-after.ensures.takes;
-    sends = rw c.as_slice.ensures.value at c.in-Err.ensures.sends;
+    sends = rw c.batch.ensures at c.in-Err.ensures.sends;
     behind = refl;
   },
 )
 
-pub returns-clause-made : goal.returns-clause-made
-returns-clause-made g c = record {
-  messages = c.take-after.new.batch.items;
+pub returns-in-Ok-clause-made : goal.returns-in-Ok-clause-made
+returns-in-Ok-clause-made g c = record {
+  messages = (g.S.Source.taken c.take-after.new.self);
   taken = c.take-after.ensures.takes;
-  sends = rw c.as_slice.ensures.value at c.in-Ok.ensures.sends;
+  sends = rw c.batch.ensures at c.in-Ok.ensures.sends;
   behind = c.in-Ok.ensures.behind;
 }

@@ -1,5 +1,5 @@
 use Rattle.std.proofs.Common.{◌≡◌, ◌+◌, ◌*◌, ◌≤◌, []}
-use Rattle.sending.specs.Run.{FromFeed, GoesOnFor, live}
+use Rattle.sending.specs.Run.{GoesOnFor, live}
 use Rattle.sending.proofs.run.run_turns.Given as goal
 
 -- so many turns were made and the run goes on; each took at most eight messages, none waits, and what is lent stays so
@@ -9,15 +9,15 @@ invariant-loop-turn g l =
     record {
       idle : l.sender.sender.server.held ≡ [];
       loan : l.sender.loan ≡ l.fn.sender.loan;
-      feed : l.intake.feed ≡ l.fn.intake.feed;
-      errors : l.intake.errors ≡ l.fn.intake.errors;
+      how : g.S.Source.how l.source ≡ g.S.Source.how l.fn.source;
+      lent : g.S.Source.lent l.source ≡ g.S.Source.lent l.fn.source;
       writer : l.teller.writer ≡ l.fn.teller.writer;
       countable : l.course.progress.taken ≤ l.fn.course.progress.taken + 8 * l._turn;
-      on : GoesOnFor (FromFeed g.F.Feed.remaining g.F.Feed.takes g.F.Feed.says g.F.Feed.passes l.options.reading)
+      on : GoesOnFor (g.S.Source.takes (g.S.Source.how l.fn.source) l.options.size)
           g.C.Connections.opens
           g.C.Connections.closes g.C.Input.Read.remaining g.C.Output.Write.contents
           k.leaves
-          k.is_clean k.saves k.fails l.options.form l._turn
-          (live l.fn.sender l.fn.keeper l.fn.intake l.fn.teller l.fn.course)
-          (live l.sender l.keeper l.intake l.teller l.course);
+          k.is_clean k.saves k.fails l.options.account l._turn
+          (live l.fn.sender l.fn.keeper (g.S.Source.at l.fn.source) l.fn.teller l.fn.course)
+          (live l.sender l.keeper (g.S.Source.at l.source) l.teller l.course);
     }

@@ -21,10 +21,11 @@ returns-clause-sends g c =
     ∙ sym (waiting_of_batch c.args.sender.now c.args.batch.now c.requires.idle) in (
       sent.result,
       search rules,
-      subst (λ (cs : ServerCounts). AnswersTold (RepliesOf c.args.form sent.new.progress.taken
+      subst (λ (cs : ServerCounts). AnswersTold c.args.account (RepliesOf c.args.account sent.new.progress.taken
           (waiting (submitted_all c.args.sender.now c.args.batch.now).sender.server)) cs sent.result
           before after c.tell_replies.result) counts
-          (subst (λ l. AnswersTold (RepliesOf c.args.form sent.new.progress.taken l) c.counts.result sent.result
+          (subst (λ l. AnswersTold c.args.account (RepliesOf c.args.account sent.new.progress.taken l) c.counts.result
+          sent.result
           before after c.tell_replies.result) waits c.tell_replies.ensures.tells),
       search rules,
       c.unknown_of-course.ensures,

@@ -1,7 +1,7 @@
 use Rattle.std.proofs.Common.{rules, ◌≡◌, ◌+◌, ◌-◌, length, subst, ◌∙◌, inr}
 use Rattle.uecp_link.specs.declared.counts.ServerCounts.{ServerCounts}
 use Rattle.uecp_link.specs.Server.{waiting}
-use Rattle.sending.specs.Forms.{AreHeld}
+use Rattle.sending.specs.Accounts.{AreHeld}
 use Rattle.sending.specs.Run.{AnswersTold, marks_in, unknown_of}
 use Rattle.sending.proofs.turn.settle_first.Goals as goal
 
@@ -23,13 +23,14 @@ returns-clause-settles g c =
       (
         sent.result,
         search rules,
-        subst (λ (cs : ServerCounts). AnswersTold (AreHeld c.args.form (taken + 1 - length (marks_in server))
+        subst (λ (cs : ServerCounts). AnswersTold c.args.account
+            (AreHeld c.args.account (taken + 1 - length (marks_in server))
             (marks_in server) (waiting server)) cs sent.result before after c.tell_held.result) counts
-            (subst (λ n. AnswersTold (AreHeld c.args.form n (marks_in server) (waiting server))
+            (subst (λ n. AnswersTold c.args.account (AreHeld c.args.account n (marks_in server) (waiting server))
             c.counts.result sent.result before after c.tell_held.result) first
-            (subst (λ l. AnswersTold (AreHeld c.args.form c.first_of.result l (waiting server))
+            (subst (λ l. AnswersTold c.args.account (AreHeld c.args.account c.first_of.result l (waiting server))
             c.counts.result sent.result before after c.tell_held.result) marks
-            (subst (λ l. AnswersTold (AreHeld c.args.form c.first_of.result c.as_slice.result.now l)
+            (subst (λ l. AnswersTold c.args.account (AreHeld c.args.account c.first_of.result c.as_slice.result.now l)
             c.counts.result sent.result before after c.tell_held.result) sent_is c.tell_held.ensures.tells))),
         search rules,
         unknown,

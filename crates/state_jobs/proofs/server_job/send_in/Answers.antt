@@ -48,6 +48,7 @@ returns-else-progress-ge-TAKEN_MAX-clause-sent g c =
         runs = run.ensures.runs.1;
         kept = λ was clean. run.ensures.kept (told_so went _ _ _ run.ensures.runs.2 was)
             (c.in-Ok.ensures.settled (run.ensures.clean clean)) clean;
+        told = λ was. run.ensures.told (told_so went _ _ _ run.ensures.runs.2 was);
         outlives = λ clean. run.ensures.outlives (c.in-Ok.ensures.settled (run.ensures.clean clean)) clean;
         clean = run.ensures.clean;
         is_closed = c.close_server.ensures;

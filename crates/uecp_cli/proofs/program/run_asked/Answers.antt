@@ -70,6 +70,9 @@ returns-in-Conformance-clause-comes g c =
     let run = c.run_conformance_over_tcp in
     rw c.in-Conformance.is (run.ensures.done, λ two. ap g.W.Write.contents (run.ensures.unknown two))
 
+pub returns-in-MakeFitted-clause-comes : goal.returns-in-MakeFitted-clause-comes
+returns-in-MakeFitted-clause-comes g c = rw c.in-MakeFitted.is c.run_make_fitted.ensures
+
 pub returns-in-Quote-clause-comes : goal.returns-in-Quote-clause-comes
 returns-in-Quote-clause-comes g c = rw c.in-Quote.is c.run_quote.ensures
 

@@ -12,6 +12,6 @@ pub returns : goal.returns
 returns c =
     let end : length c.args.rows.now ≤ c.loop-row.row-index = search rules in
     view-Array c.loop-row.list ∙ ap array (ap items_of
-    (c.loop-row.invariant ∙ ap (map (λ r. service_data (service_of r)))
+    (c.loop-row.invariant ∙ ap (map (λ r. service_data c.args.now c.args.announced.now (service_of r)))
     (take_all c.loop-row.row-index c.args.rows.now end))
-    ∙ each_service service_of c.args.rows.now)
+    ∙ each_service c.args.now c.args.announced.now service_of c.args.rows.now)

@@ -6,4 +6,5 @@ use Rattle.page.specs.StateView.{service_of}
 use Rattle.page.proofs.state.texts.services_value.Given as goal
 
 abbrev pub invariant-loop-row : goal.invariant-loop-row
-invariant-loop-row l = map view l.list.items ≡ map (λ r. service_data (service_of r)) (take l.row-index l.rows)
+invariant-loop-row l =
+    map view l.list.items ≡ map (λ r. service_data l.now l.announced (service_of r)) (take l.row-index l.rows)
