@@ -1,11 +1,12 @@
 -- Every list of events and crashes leads to what a line comes to, and so does each file of the server.
 use mathlib.Core.Path.{fun_ext}
-use Rattle.std.proofs.Common.{◌≡◌, ℕ, ◌||◌, ◌⊎◌, Bool, true, false, cond, List, [], ◌∷◌, ◌++◌, length}
-use Rattle.std.proofs.Common.{append-nil, append_assoc, Some, None, take, nat_lt, refl, ap, sym, subst, ◌∙◌, arith, inl}
-use Rattle.std.proofs.Common.{inr, length-append}
-use Rattle.std.specs.Prelude.{is_none}
+use Rattle.std.proofs.Common.{◌≡◌, ℕ, ◌+◌, ◌==◌, Bool, true, false, cond, List, [], ◌∷◌, ◌++◌, length}
+use Rattle.std.proofs.Common.{append-nil, append_assoc, Option, Some, None, take, nat_lt, refl, ap, sym, subst, ◌∙◌}
+use Rattle.std.proofs.Common.{arith, inl, inr, length-append}
+use Rattle.std.specs.Prelude.{◌&&◌, not, is_none, is_some}
 use Rattle.std.specs.List.{AllByRecursion}
-use Rattle.std.proofs.lemmas.Bool.{cases_Bool, ltb-true}
+use Rattle.std.proofs.lemmas.Bool.{cases_Bool, ltb-true, eqb-true}
+use Rattle.uecp_elements.specs.declared.code.Code.{Code}
 use Rattle.uecp_frame.specs.Frame.{spelling}
 use Rattle.uecp_frame.specs.Findings.{Closed, is_quiet, has_frame}
 use Rattle.uecp_frame.specs.Beyond.{found_beyond}
@@ -13,7 +14,8 @@ use Rattle.uecp_encoder.specs.Target.{Step, Taken}
 use Rattle.uecp_encoder.specs.State.{EncoderState, restarted}
 use Rattle.uecp_link.specs.Server.{ServerState, Held, idle_at, nothing_counted, restarted_server, submitted}
 use Rattle.uecp_link.specs.Once.{Event, Submit, FrameComes, ReplyComes, NoiseToEncoder, NoiseToServer, EncoderLost}
-use Rattle.uecp_link.specs.Once.{ServerLost, EncoderRestart, ServerRestart, Take, refusal_of, answer_of}
+use Rattle.uecp_link.specs.Once.{ServerLost, EncoderRestart, ServerRestart, Take, Once, refusal_of, answer_of, after}
+use Rattle.uecp_link.specs.Once.{applied_once, delivered, is_next}
 use Rattle.uecp_link.specs.History.{Act, act_of}
 use Rattle.uecp_link.specs.Law.{World, frame_of, start_from, Fits}
 use Rattle.uecp_link.specs.Kept.{IsReady}
@@ -21,7 +23,8 @@ use Rattle.uecp_link.proofs.Public.{acknowledged_are, quiet_rest}
 use Rattle.uecp_encoder.specs.Keeping.{Kept}
 use Rattle.uecp_encoder.specs.Keeping.{kept_of as encoder_kept, going_on as encoder_going_on}
 use Rattle.uecp_net.specs.Keeping.{going_on as server_going_on}
-use Rattle.promises.specs.Station.{Station, DiskEvent, Happens, CutOff, ServerSaves, encoder_file_after}
+use Rattle.promises.specs.Station.{Station, DiskEvent, Happens, CutOff, ServerSaves, ServerCut}
+use Rattle.promises.specs.Station.{encoder_file_after, heard_after, told_after, server_saved}
 use Rattle.promises.specs.Station.{acknowledged_by, world_after, station_after, encoder_crashes, server_crashes}
 use Rattle.promises.specs.Station.{server_saves, encoder_took, cut_off, happens_on_disks, after_disk_event}
 use Rattle.promises.specs.Station.{run_on_disks, station_from, FitsOnDisks}
@@ -52,11 +55,88 @@ test_of_one : {A : Type 0} (b : Bool) (x : A) → is_none (cond b None (Some x))
 test_of_one true x h = refl
 test_of_one false x h = absurd (cc)
 
-either_of : (b c : Bool) → (b || c) ≡ true → (b ≡ true) ⊎ (c ≡ true)
-either_of true c h = inl refl
-either_of false c h = inr h
+-- of what is told at a save each is acknowledged, or was told before
+told_before : (told : Option (Option Code)) (acknowledged : Bool) (heard : Option Code)
+    → is_some (told_after told acknowledged heard) ≡ true → (acknowledged ≡ false) → is_some told ≡ true
+told_before (Some told) acknowledged heard is not_now = refl
+told_before None true heard is not_now = absurd (cc)
+told_before None false heard is not_now = is
 
-module _ {V : Type 0} (step : Step V) (taken : Taken V) (e : EncoderState V) (ready : IsReady e.ring)
+-- and a code that is told was told before, or is the one that was heard
+told_code : (told : Option (Option Code)) (acknowledged : Bool) (heard : Option Code) (codes : Option Code)
+    (code : Code) → (told ≡ Some (Some code) → codes ≡ Some code) → (heard ≡ Some code → codes ≡ Some code)
+    → told_after told acknowledged heard ≡ Some (Some code) → codes ≡ Some code
+told_code (Some told) acknowledged heard codes code before now is = before is
+told_code None true heard codes code before now is = now (some_is heard (Some code) is)
+  where
+    some_is : (x y : Option Code) → Some x ≡ Some y → x ≡ y
+    some_is x y same = cc
+told_code None false heard codes code before now is = absurd (cc)
+
+front : (b c : Bool) → (b && c) ≡ true → b ≡ true
+front true c both = refl
+front false c both = absurd (cc)
+
+-- ---- the codes that were given stay
+
+module _ {V : Type 0} (step : Step V) (taken : Taken V) where
+  applied_stays : (o : Once V) (j k : ℕ) (code : Code) → o.codes k ≡ Some code → o.codes j ≡ None
+      → (applied_once step o j).codes k ≡ Some code
+  applied_stays o j k code is new =
+      elim (cases_Bool (k == j)) [
+        | inl same ↦ absurd (clash (o.codes k) (o.codes j) is new (ap o.codes (eqb-true k j same)))
+        | inr other ↦ rw other is
+      ]
+    where
+      clash : (x y : Option Code) → x ≡ Some code → y ≡ None → x ≡ y → ⊥
+      clash x y some none same = absurd (cc)
+
+  delivered_stays : (o : Once V) (j k : ℕ) (code : Code) → o.codes k ≡ Some code → (c : Option Code)
+      → o.codes j ≡ c → (delivered step o j c).codes k ≡ Some code
+  delivered_stays o j k code is (Some c) now = is
+  delivered_stays o j k code is None now = go (is_next o.codes (length o.sent) j)
+    where
+      go : (next : Bool)
+          → (cond next (applied_once step o j) (record o { to_encoder = [] })).codes k ≡ Some code
+      go true = applied_stays o j k code is now
+      go false = is
+
+  codes_stay : (o : Once V) (event : Event) (k : ℕ) (code : Code) → o.codes k ≡ Some code
+      → (after step taken o event).codes k ≡ Some code
+  codes_stay o (Submit m) k code is = is
+  codes_stay o (FrameComes j) k code is = delivered_stays o j k code is (o.codes j) refl
+  codes_stay o (ReplyComes j) k code is = is
+  codes_stay o (NoiseToEncoder x) k code is = is
+  codes_stay o (NoiseToServer x) k code is = is
+  codes_stay o EncoderLost k code is = is
+  codes_stay o ServerLost k code is = is
+  codes_stay o EncoderRestart k code is = is
+  codes_stay o ServerRestart k code is = is
+  codes_stay o Take k code is = is
+
+  -- what was heard is the code of its message
+  heard_stays : (o : Once V) (heard : ℕ → Option Code) (event : Event)
+      → ((k : ℕ) (code : Code) → heard k ≡ Some code → o.codes k ≡ Some code)
+      → (k : ℕ) (code : Code) → heard_after o heard event k ≡ Some code
+      → (after step taken o event).codes k ≡ Some code
+  heard_stays o heard (Submit m) own k code is = own k code is
+  heard_stays o heard (FrameComes j) own k code is = codes_stay o (FrameComes j) k code (own k code is)
+  heard_stays o heard (ReplyComes j) own k code is = go ((k == j) && not (o.acknowledged j)) refl is
+    where
+      -- by the reply that comes, where it is that of this number and acknowledges it
+      go : (b : Bool) → ((k == j) && not (o.acknowledged j)) ≡ b → cond b (o.codes j) (heard k) ≡ Some code
+          → o.codes k ≡ Some code
+      go true one heard_now = ap o.codes (eqb-true k j (front (k == j) (not (o.acknowledged j)) one)) ∙ heard_now
+      go false one heard_now = own k code heard_now
+  heard_stays o heard (NoiseToEncoder x) own k code is = own k code is
+  heard_stays o heard (NoiseToServer x) own k code is = own k code is
+  heard_stays o heard EncoderLost own k code is = own k code is
+  heard_stays o heard ServerLost own k code is = own k code is
+  heard_stays o heard EncoderRestart own k code is = own k code is
+  heard_stays o heard ServerRestart own k code is = own k code is
+  heard_stays o heard Take own k code is = own k code is
+
+module _ {V : Type 0} (step : Step V) (taken : Taken V) (e : EncoderState V) (before : ℕ) (ready : IsReady e.ring)
     (shut : e.part ≡ Closed) where
   -- What the line has come to, and what it comes to where the server goes on from its file, each by some events of a
   -- line with this history: the second has the same encoder, messages and codes.
@@ -69,9 +149,11 @@ module _ {V : Type 0} (step : Step V) (taken : Taken V) (e : EncoderState V) (re
     pub last_is : s.server_file.last ≡ server.last
     pub held_is : s.server_file.held ≡ server.held
     pub encoder_file_is_kept : s.encoder_file ≡ encoder_kept s.world.encoder
-    pub input : s.server_file.taken ≡ length s.world.once.sent
-    pub told_now : (k : ℕ) → s.told k ≡ true → s.world.once.acknowledged k ≡ true
-    pub told_saved : (k : ℕ) → s.told k ≡ true → acknowledged k ≡ true
+    pub input : s.server_file.taken ≡ before + length s.world.once.sent
+    pub told_now : (k : ℕ) → is_some (s.told k) ≡ true → s.world.once.acknowledged k ≡ true
+    pub told_saved : (k : ℕ) → is_some (s.told k) ≡ true → acknowledged k ≡ true
+    pub heard_own : (k : ℕ) (code : Code) → s.heard k ≡ Some code → s.world.once.codes k ≡ Some code
+    pub told_own : (k : ℕ) (code : Code) → s.told k ≡ Some (Some code) → s.world.once.codes k ≡ Some code
 
   -- what the event brings
   abbrev brings : Station V → Event → List Act
@@ -93,6 +175,7 @@ module _ {V : Type 0} (step : Step V) (taken : Taken V) (e : EncoderState V) (re
         world = world_after step taken e.address s.world event;
         encoder_file = file;
         server_file = s.server_file;
+        heard = s.heard;
         told = s.told;
       }) (acts ++ brings s event)
   backed_encoder s acts event file fit at open_ h is =
@@ -115,9 +198,11 @@ module _ {V : Type 0} (step : Step V) (taken : Taken V) (e : EncoderState V) (re
         last_is = h.last_is;
         held_is = h.held_is;
         encoder_file_is_kept = is;
-        input = h.input ∙ ap length (sym leaves.sent);
+        input = h.input ∙ ap (λ (ms : List (List ℕ)). before + length ms) (sym leaves.sent);
         told_now = λ k t. ap (λ (f : ℕ → Bool). f k) leaves.acknowledged ∙ h.told_now k t;
         told_saved = h.told_saved;
+        heard_own = λ k code is. codes_stay step taken s.world.once event k code (h.heard_own k code is);
+        told_own = λ k code is. codes_stay step taken s.world.once event k code (h.told_own k code is);
       }
 
   backed_encoder_crash : (s : Station V) (acts : List Act) → Backed s acts → Backed (encoder_crashes e.address s) acts
@@ -142,7 +227,10 @@ module _ {V : Type 0} (step : Step V) (taken : Taken V) (e : EncoderState V) (re
       → is_none (refusal_of s.world.once event) ≡ true
       → (world_after step taken e.address s.world event).encoder ≡ s.world.encoder
       → (world_after step taken e.address s.world event).once.sent ≡ s.world.once.sent → Backed s acts
-      → Backed (record s { world = world_after step taken e.address s.world event }) (acts ++ brings s event)
+      → Backed (record s {
+        world = world_after step taken e.address s.world event;
+        heard = heard_after s.world.once s.heard event;
+      }) (acts ++ brings s event)
   backed_server s acts event fit at open_ encoder_is sent_is h = record {
     now = reached_on step taken e s.world acts event fit open_ h.now;
     server = h.server;
@@ -158,9 +246,11 @@ module _ {V : Type 0} (step : Step V) (taken : Taken V) (e : EncoderState V) (re
     last_is = h.last_is;
     held_is = h.held_is;
     encoder_file_is_kept = h.encoder_file_is_kept ∙ ap encoder_kept (sym encoder_is);
-    input = h.input ∙ ap length (sym sent_is);
+    input = h.input ∙ ap (λ (ms : List (List ℕ)). before + length ms) (sym sent_is);
     told_now = λ k t. stays_acknowledged step taken s.world.once event at k (h.told_now k t);
     told_saved = h.told_saved;
+    heard_own = heard_stays step taken s.world.once s.heard event h.heard_own;
+    told_own = λ k code is. codes_stay step taken s.world.once event k code (h.told_own k code is);
   }
 
   -- a message that is submitted is in the file, with what the server was by then
@@ -181,18 +271,39 @@ module _ {V : Type 0} (step : Step V) (taken : Taken V) (e : EncoderState V) (re
         input = omega (arith, h.input, length-append s.world.once.sent (m ∷ []));
         told_now = h.told_now;
         told_saved = h.told_now;
+        heard_own = h.heard_own;
+        told_own = h.told_own;
       }
 
+  -- the server is saved as it is
+  backed_saved : (s : Station V) (acts : List Act) → Backed s acts → Backed (server_saved s) acts
+  backed_saved s acts h = record {
+    now = h.now;
+    server = s.world.server;
+    acknowledged = s.world.once.acknowledged;
+    noise = s.world.once.to_server;
+    saved = h.now;
+    last_is = refl;
+    held_is = refl;
+    encoder_file_is_kept = h.encoder_file_is_kept;
+    input = h.input;
+    told_now = h.told_now;
+    told_saved = h.told_now;
+    heard_own = h.heard_own;
+    told_own = h.told_own;
+  }
+
+  -- and then what is acknowledged is told
   backed_saves : (s : Station V) (acts : List Act) → Backed s acts → Backed (server_saves s) acts
   backed_saves s acts h =
       let law = lawful_of step taken e ready shut s.world acts h.now in
-      let told : (k : ℕ)
-      → (s.told k || acknowledged_by s.world.server.held (length s.world.once.sent) k) ≡ true
+      let shows : ℕ → Bool = acknowledged_by s.world.server.held (length s.world.once.sent) in
+      let told : (k : ℕ) → is_some (told_after (s.told k) (shows k) (s.heard k)) ≡ true
       → s.world.once.acknowledged k ≡ true = λ k t.
-      elim (either_of (s.told k) (acknowledged_by s.world.server.held (length s.world.once.sent) k) t) [
-        | inl before ↦ h.told_now k before
-        | inr now ↦
+      elim (cases_Bool (shows k)) [
+        | inl now ↦
             sym (acknowledged_are e.address s.world.encoder s.world.server s.world.once law.p law.q law.kept k) ∙ now
+        | inr not_now ↦ h.told_now k (told_before (s.told k) (shows k) (s.heard k) t not_now)
       ] in
       record {
         now = h.now;
@@ -206,6 +317,9 @@ module _ {V : Type 0} (step : Step V) (taken : Taken V) (e : EncoderState V) (re
         input = h.input;
         told_now = told;
         told_saved = told;
+        heard_own = h.heard_own;
+        told_own = λ k code is. told_code (s.told k) (shows k) (s.heard k) (s.world.once.codes k) code
+            (h.told_own k code) (h.heard_own k code) is;
       }
 
   -- what the file shows to be acknowledged is so where the server goes on from it
@@ -244,8 +358,13 @@ module _ {V : Type 0} (step : Step V) (taken : Taken V) (e : EncoderState V) (re
         input = h.input;
         told_now = λ k t. ap (λ (f : ℕ → Bool). f k) (shown s acts h) ∙ h.told_saved k t;
         told_saved = h.told_saved;
+        heard_own = λ k code is. absurd (none_heard code is);
+        told_own = h.told_own;
       }
     where
+      none_heard : (code : Code) → None ≡ Some code → ⊥
+      none_heard code is = absurd (cc)
+
       going : ℕ → ℕ → List Held → ServerState
       going a l hs = record { address = a; last = l; held = hs; counts = nothing_counted; part = Closed }
 
@@ -383,6 +502,7 @@ module _ {V : Type 0} (step : Step V) (taken : Taken V) (e : EncoderState V) (re
       (brought_by_cut step taken e.address s.world.once event came saved) event h
       (λ open_. backed_cut s acts event came saved fit open_ h)
   backed_disk_event s acts ServerSaves fit h = with_nothing (server_saves s) acts (backed_saves s acts h)
+  backed_disk_event s acts ServerCut fit h = server_cut (server_saved s) acts (backed_saved s acts h)
 
   backed_run : (s : Station V) (acts : List Act) (events : List DiskEvent) → AllByRecursion FitsOnDisks events
       → Backed s acts
@@ -396,7 +516,7 @@ module _ {V : Type 0} (step : Step V) (taken : Taken V) (e : EncoderState V) (re
       (append_assoc acts brought (history_on_disks step taken e.address next events))
       (backed_run next (acts ++ brought) events fit.1 (backed_disk_event s acts event fit.0 h))
 
-  backed_from : Backed (station_from e) []
+  backed_from : Backed (station_from e before) []
   backed_from =
       let at_first : Reached step taken e (start_from e) [] = record {
         events = [];
@@ -413,12 +533,17 @@ module _ {V : Type 0} (step : Step V) (taken : Taken V) (e : EncoderState V) (re
         last_is = refl;
         held_is = refl;
         encoder_file_is_kept = refl;
-        input = refl;
+        input = (let e0 : before ≡ before + 0 = omega arith in e0);
         told_now = λ k t. t;
         told_saved = λ k t. t;
+        heard_own = λ k code is. absurd (nothing code is);
+        told_own = λ k code is. absurd (nothing (Some code) is);
       }
+    where
+      nothing : {A : Type 0} (x : A) → None ≡ Some x → ⊥
+      nothing x is = absurd (cc)
 
   pub backed : (events : List DiskEvent) → AllByRecursion FitsOnDisks events
-      → Backed (run_on_disks step taken e.address (station_from e) events)
-      (history_on_disks step taken e.address (station_from e) events)
-  backed events fit = backed_run (station_from e) [] events fit backed_from
+      → Backed (run_on_disks step taken e.address (station_from e before) events)
+      (history_on_disks step taken e.address (station_from e before) events)
+  backed events fit = backed_run (station_from e before) [] events fit backed_from

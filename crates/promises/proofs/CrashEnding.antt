@@ -40,10 +40,10 @@ module _ {V : Type 0} (step : Step V) (taken : Taken V) (address : ℕ) where
 
 pub acknowledged_after_any_crash_lem : {V : Type 0} (step : Step V) (taken : Taken V)
     → AcknowledgedAfterAnyCrash step taken
-acknowledged_after_any_crash_lem {V} step taken address value events fit =
+acknowledged_after_any_crash_lem {V} step taken address value before events fit =
     let e : EncoderState V = opening address value in
-    let s : Station V = run_on_disks step taken address (station_from e) events in
-    let h = backed step taken e ready_at_first refl events fit in
+    let s : Station V = run_on_disks step taken address (station_from e before) events in
+    let h = backed step taken e before ready_at_first refl events fit in
     let ks : List ℕ = missing s.world.once.acknowledged (length s.world.once.sent) in
     let done : IsDone (run step taken address s.world (all_come ks)) =
     subst (λ (w : World V). IsDone (run step taken address w

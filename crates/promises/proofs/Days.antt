@@ -5,7 +5,7 @@ use Rattle.std.proofs.Common.{take-take, ◌≤◌}
 use Rattle.std.proofs.lemmas.List.{take-append-le, take_min, length-take}
 use Rattle.std.proofs.lemmas.Bool.{eqb-true}
 use Rattle.uecp_elements.specs.declared.code.Code.{Code}
-use Rattle.reply_ring.specs.Ring.{kept_code, newest, keep}
+use Rattle.reply_ring.specs.Ring.{kept_code, newest}
 use Rattle.uecp_frame.specs.declared.frame.Frame.{Frame}
 use Rattle.uecp_frame.specs.Address.{reaches}
 use Rattle.uecp_frame.specs.Frame.{spelling}
@@ -16,18 +16,18 @@ use Rattle.uecp_encoder.specs.State.{EncoderState, next_after, raised, is_next, 
 use Rattle.uecp_encoder.specs.State.{after_findings, fed}
 use Rattle.uecp_encoder.specs.Answering.{Replied, NotForMe, Unnumbered, NotNext, reply_of, replied}
 use Rattle.uecp_encoder.specs.Laws.{fresh_in, Follow}
-use Rattle.uecp_encoder.specs.Keeping.{Kept, kept_of, going_on, Outlives}
+use Rattle.uecp_encoder.specs.Keeping.{Kept, kept_of, going_on}
 use Rattle.promises.specs.DeviceLives.{DeviceEvent, Reads, HangsUp, Crashes, TakesGroup, StartsAgain}
 use Rattle.promises.specs.DeviceLives.{Deed, Applies}
 use Rattle.promises.specs.DeviceLives.{TakesOne, deeds_in, deeds_among, deeds_of, after_deed, after_deeds}
-use Rattle.promises.specs.DeviceLives.{counters_of, Happens, Serves, DeviceLives, IsOneLife, DaysAreOneLife}
-use Rattle.promises.specs.DeviceLives.{ServesAsEvent, CallsAreEvents}
+use Rattle.promises.specs.DeviceLives.{counters_of, Happens, DeviceLives, DaysAreOneLife}
+use Rattle.promises.specs.DeviceLives.{CallsAreEvents}
 use Rattle.uecp_encoder.proofs.Public.{findings_open, in_pieces_of_encoder}
 use Rattle.uecp_encoder.specs.declared.serving.ServeFault.TheVariants.{ReadFailed, WriteFailed, TurnsSpent}
 use Rattle.uecp_encoder.specs.declared.serving.KeptFault.TheVariants as kept
 use Rattle.uecp_encoder.specs.Answering.{answers}
 use Rattle.uecp_encoder.specs.Serving.{AnswersAll}
-use Rattle.uecp_encoder.specs.ServingWith.{Ended, ServesOrStops, StopsAnswering, StopsSaving, ServesKept}
+use Rattle.uecp_encoder.specs.ServingWith.{Ended, ServesOrStops, StopsAnswering, StopsSaving}
 
 -- These counters follow this one, and the last of them is this.
 abbrev Leads : (last : Option ℕ) → List Deed → (now : Option ℕ) → Type 0

@@ -1,5 +1,5 @@
 -- A run of an encoder is some of its days.
-use Rattle.std.proofs.Common.{◌≡◌, ◌⊎◌, ℕ, zero, suc, Bool, true, false, List, [], ◌∷◌, ◌++◌, Option, Some, None, Ok}
+use Rattle.std.proofs.Common.{◌≡◌, ℕ, zero, suc, Bool, true, false, List, [], ◌∷◌, ◌++◌, Option, Some, None, Ok}
 use Rattle.std.proofs.Common.{Err}
 use Rattle.std.proofs.Common.{refl, sym, ap, subst, ◌∙◌, inl, inr, append_assoc, cond}
 use Rattle.rds_groups.specs.declared.group.Group.{Group}
@@ -10,8 +10,7 @@ use Rattle.uecp_frame.specs.Findings.{Closed}
 use Rattle.uecp_encoder.specs.State.{EncoderState}
 use Rattle.uecp_encoder.specs.Keeping.{Kept}
 use Rattle.uecp_encoder.specs.ServingWith.{Ended, ServesKept}
-use Rattle.kept_jobs.specs.declared.stop.KeptStop.{KeptStop}
-use Rattle.kept_jobs.specs.Stops.{Went, Then}
+use Rattle.kept_jobs.specs.Stops.{Went}
 use Rattle.device_serving.specs.declared.air.moments.Moment.{Moment}
 use Rattle.device_serving.specs.declared.air.moments.Moment.TheVariants.{Connected, Readable, Due, Over}
 use Rattle.device_serving.specs.DeviceRun as device

@@ -19,7 +19,7 @@ use Rattle.promises.proofs.Taking.{history_but, none_taken}
 use Rattle.promises.proofs.StationAnswering.{codes_applied}
 
 -- so many numbers are below a bound where each of them is
-all_below : (n bound : ℕ) → ((k : ℕ) → k < n → k < bound) → n ≤ bound
+pub all_below : (n bound : ℕ) → ((k : ℕ) → k < n → k < bound) → n ≤ bound
 all_below zero bound h = omega arith
 all_below (suc n) bound h = let last = h n (omega arith) in omega (arith, last)
 

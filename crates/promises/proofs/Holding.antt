@@ -98,12 +98,13 @@ module _ {V : Type 0} (step : Step V) (taken : Taken V) (address : ℕ) (opening
       }
 
 -- what its files hold
-files_hold : {V : Type 0} (step : Step V) (taken : Taken V) (e : EncoderState V) (ready : IsReady e.ring)
-    (shut : e.part ≡ Closed) (s : Station V) (acts : List Act) → Backed step taken e ready shut s acts → FilesHold s
-files_hold {V} step taken e ready shut s acts h =
+files_hold : {V : Type 0} (step : Step V) (taken : Taken V) (e : EncoderState V) (before : ℕ) (ready : IsReady e.ring)
+    (shut : e.part ≡ Closed) (s : Station V) (acts : List Act) → Backed step taken e before ready shut s acts
+    → FilesHold before s
+files_hold {V} step taken e before ready shut s acts h =
     let file : World V = with_server s.world h.server h.acknowledged h.noise in
     let law = lawful_of step taken e ready shut file acts h.saved in
-    let shows = shown step taken e ready shut s acts h in
+    let shows = shown step taken e before ready shut s acts h in
     record {
       encoder = h.encoder_file_is_kept;
       outstanding = ap waiting_among h.held_is
@@ -115,15 +116,15 @@ files_hold {V} step taken e ready shut s acts h =
     }
 
 pub crashes_lem : {V : Type 0} (step : Step V) (taken : Taken V) → CrashesAreLineEvents step taken
-crashes_lem step taken e ready shut events fit =
-    let now = (backed step taken e ready shut events fit).now in
+crashes_lem step taken e before ready shut events fit =
+    let now = (backed step taken e before ready shut events fit).now in
     record { events = now.events; fits = now.fits; same = now.same; acts_are = now.acts_are }
 
 pub headline_lem : {V : Type 0} (step : Step V) (taken : Taken V) → HeadlineWithDisks step taken
-headline_lem {V} step taken e ready shut events fit =
-    let s : Station V = run_on_disks step taken e.address (station_from e) events in
-    let acts : List Act = history_on_disks step taken e.address (station_from e) events in
-    let h = backed step taken e ready shut events fit in
+headline_lem {V} step taken e before ready shut events fit =
+    let s : Station V = run_on_disks step taken e.address (station_from e before) events in
+    let acts : List Act = history_on_disks step taken e.address (station_from e before) events in
+    let h = backed step taken e before ready shut events fit in
     let law = lawful_of step taken e ready shut s.world acts h.now in
     let holds = holds_on step taken e.address e.value s.world acts law in
     record {
@@ -133,5 +134,6 @@ headline_lem {V} step taken e ready shut events fit =
       holds = holds;
       headline = headline_on step taken e.address e.value s.world acts law;
       told = λ k t. holds.acknowledged k ∙ h.told_now k t;
-      files = files_hold step taken e ready shut s acts h;
+      code = λ k code is. holds.codes k ∙ h.told_own k code is;
+      files = files_hold step taken e before ready shut s acts h;
     }

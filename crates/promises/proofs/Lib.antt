@@ -19,6 +19,9 @@ pub mod Reaching
 pub mod Backing
 pub mod Holding
 pub mod CrashEnding
+pub mod Epochs
+pub mod Coming
+pub mod Displaying
 pub mod Streaming
 pub mod Submitting
 pub mod Begun
@@ -33,6 +36,7 @@ pub mod LiveEnding
 pub mod SendEnding
 pub mod Days
 pub mod DeviceRuns
+mod KeeperRuns
 pub mod LiveAnswering
 pub mod LiveTelling
 pub mod Speaking

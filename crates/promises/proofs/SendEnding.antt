@@ -1,47 +1,43 @@
 -- What a run of `send` over TCP took and told, and what a crash leaves of its file.
-use Rattle.std.proofs.Common.{arith, ◌≡◌, ◌⊎◌, ℕ, Bool, ◌≤◌, ◌++◌, [], false, List, Option, Some, None, Result, Ok, Err}
+use Rattle.std.proofs.Common.{arith, ◌≡◌, ◌⊎◌, ℕ, Bool, ◌≤◌, [], true, false, List, Option, Some, None, Result, Ok, Err}
 use Rattle.std.proofs.Common.{refl}
-use Rattle.std.proofs.Common.{sym, ap, subst, ◌∙◌, inl, inr, length}
-use Rattle.std.specs.Prelude.{option_map}
-use Rattle.std.specs.String.{string_bytes}
+use Rattle.std.proofs.Common.{sym, subst, inl, inr, length}
 use Rattle.std.specs.Io.KnownBytes.{Appends, Keeps, prepend_known}
 use Rattle.uecp_elements.specs.declared.code.Code.{Code}
 use Rattle.uecp_link.specs.Server.{ServerState, idle_at}
-use Rattle.uecp_encoder.specs.declared.keep.NotSaved.{NotSaved}
 use Rattle.uecp_net.specs.declared.saved.keep.Progress.{Progress}
 use Rattle.uecp_net.specs.Keeping.{KeptServer}
-use Rattle.uecp_net.specs.Tcp.{Dials, DialsAgain}
 use Rattle.kept_jobs.specs.ServerRun.{Standing}
 use Rattle.uecp_jobs.specs.Setups.{address_of}
 use Rattle.kept_jobs.specs.ServerKept.{HasTaken}
 use Rattle.line_batches.specs.declared.intake.Given.{Given}
 use Rattle.line_batches.specs.Intake.{messages_in}
+use Rattle.line_batches.specs.declared.taking.After.TheVariants.{GoesOn}
 use Rattle.line_feed.specs.declared.feed.Next.{Next}
 use Rattle.line_feed.specs.declared.feed_fault.FeedFault.{FeedFault}
 use Rattle.line_feed.specs.declared.feed_fault.NotKept.{NotKept}
 use Rattle.line_feed.specs.Lines.{Refusal}
 use Rattle.line_feed.specs.Reading.{Reads, Looks, ReadsNoMore}
 use Rattle.line_feed.specs.Reading.{unread as feed_unread}
-use Rattle.live_edges.specs.Heard.{Heard}
-use Rattle.live_edges.specs.Patience.{Dialled, OpensAtLast, GivesBack}
-use Rattle.commands.specs.declared.send_options.SendOptions.{SendOptions}
 use Rattle.state_files.specs.declared.fault.StateFault.{StateFault}
 use Rattle.state_jobs.specs.Texts.{IsClosed}
 use Rattle.sending.specs.declared.options.LiveOptions.{LiveOptions}
-use Rattle.sending.specs.Run.{Lives}
+use Rattle.sending.specs.Run.{Lives, run_of}
+use Rattle.sending.specs.Sources.{FromFeed}
 use Rattle.send_commands.specs.LiveIn.{LivesIn}
-use Rattle.send_commands.specs.Job.{SendsTo, SendsFrom, HasSentLive, IsFor}
-use Rattle.send_commands.specs.OverTcp.{HasSentTcp, begun_with}
+use Rattle.send_commands.specs.Job.{SendsFrom}
+use Rattle.send_commands.specs.OverTcp.{begun_with}
 use Rattle.send_commands.specs.Passing.{Kept, Takes, Asks, PassesTo}
 use Rattle.notices.specs.Told.{Told}
 use Rattle.promises.specs.Taken.{TakesSome, TakesAll}
 use Rattle.promises.specs.Left.{OutlivesLive}
 use Rattle.promises.specs.LiveTold.{TellsAll, IsStatusOf}
 use Rattle.promises.specs.LiveLaws.{IsDone}
-use Rattle.promises.specs.SendLaws.{KeepsIn, NothingBegun, SentIsKept, SentOutlives, SentIsTold}
+use Rattle.promises.specs.SendLaws.{BeginsWith, KeptFrom, SentIsKept, SentOutlives, SentIsTold}
 use Rattle.send_commands.specs.Ended.{TellsEnd}
 use Rattle.promises.proofs.LiveEnding.{not_three, clean_back, done_is_kept_lem, what_a_crash_leaves_lem}
 use Rattle.promises.proofs.LiveEnding.{told_is_taken_lem}
+use Rattle.promises.proofs.KeeperRuns.{Saved, keeper_comes}
 
 not_two : (status : ℕ) → IsDone status → status ≡ 2 → ⊥
 not_two status (inl is) two = absurd (omega arith)
@@ -81,16 +77,42 @@ module _ {D C I O K : Type 0} (unread : D → Option (List ℕ))
       (held held' : Option (List ℕ)) (said said' : Told) (status : ℕ) → Type 0
   In = LivesIn unread takes says passes gives ends leaves is_clean saves fails opens closes remaining contents
 
+  by_saves : (options : LiveOptions) (c c' : C) (x : Standing ServerState K) (k' : K) (held' : Option (List ℕ))
+      (feed feed' : D) (said said' : Told) (status : ℕ)
+      → Lives unread takes says passes opens closes remaining contents leaves is_clean saves fails options c c' x k'
+      held'
+      feed feed' said said' status → Saved saves fails x.keeper k'
+  by_saves options c c' x k' held' feed feed' said said' status (went, taken, applied, lives, feed_is, ended) =
+      keeper_comes (FromFeed unread takes says passes options.reading.input options.reading.strict) opens closes
+      remaining contents leaves is_clean saves fails (run_of options) c c' (record {
+        sends = x;
+        takes = record { feed = feed; lines = options.lines_before; refused = false; said = said };
+        applied = true;
+        unknown = 0;
+        behind = GoesOn;
+      }) k' held' taken applied went lives
+
+  kept_since : (path : List ℕ) (address : ℕ) (options : LiveOptions) (c c' : C) (feed feed' : D)
+      (held held' : Option (List ℕ)) (said said' : Told) (status : ℕ)
+      → (run : In path address options c c' feed feed' held held' said said' status)
+      → KeptFrom gives saves fails path address run.server run.progress run.keeper_after
+  kept_since path address options c c' feed feed' held held' said said' status run =
+      let x : Standing ServerState K =
+      record { runs = run.server; keeper = run.keeper; progress = run.progress; held = held } in
+      let (count, saved) = by_saves options c c' x run.keeper_after held' feed feed' said run.between run.status
+      run.lives in
+      record { k = run.keeper; given = run.given; is_to = run.address_is; count = count; saved = saved }
+
   -- ---- What is kept.
 
-  pub record KeptSo (path : List ℕ) (options : LiveOptions) (feed feed' : D) (said : Told) : Type 0 where
+  pub record KeptSo (path : List ℕ) (address : ℕ) (options : LiveOptions) (feed feed' : D) (said : Told)
+      : Type 0 where
     pub lines : List (List ℕ × Given)
     pub takes_all : TakesAll options (unread feed) (unread feed') said lines
     pub s : ServerState
     pub before : Progress
-    pub k : K
     pub k' : K
-    pub given : gives path s before k
+    pub from : KeptFrom gives saves fails path address s before k'
     pub ended : ends k' (Ok tt)
     pub kept : is_clean k' → (left : KeptServer) → leaves k' left
         → HasTaken before (length (messages_in lines)) left
@@ -98,7 +120,7 @@ module _ {D C I O K : Type 0} (unread : D → Option (List ℕ))
   kept_so : (path : List ℕ) (address : ℕ) (options : LiveOptions) (c c' : C) (feed feed' : D)
       (held held' : Option (List ℕ)) (said said' : Told) (status : ℕ)
       → In path address options c c' feed feed' held held' said said' status → IsDone status
-      → KeptSo path options feed feed' said
+      → KeptSo path address options feed feed' said
   kept_so path address options c c' feed feed' held held' said said' status run done =
       let (well, same) = closed_well path run.status run.closed status run.between said' run.is_closed done in
       let x : Standing ServerState K =
@@ -111,9 +133,8 @@ module _ {D C I O K : Type 0} (unread : D → Option (List ℕ))
         takes_all = takes_all;
         s = run.server;
         before = run.progress;
-        k = run.keeper;
         k' = run.keeper_after;
-        given = run.given;
+        from = kept_since path address options c c' feed feed' held held' said said' status run;
         ended = subst (λ closed. ends run.keeper_after closed) well run.closes_so;
         kept = λ clean. kept
             (run.settled (clean_back unread takes says passes opens closes remaining contents leaves is_clean saves
@@ -124,34 +145,34 @@ module _ {D C I O K : Type 0} (unread : D → Option (List ℕ))
       (feed feed' : D) (held held' : Option (List ℕ)) (said said' : Told) (status : ℕ) → state ≡ Some path
       → SendsFrom unread takes says passes opens closes remaining contents gives refuses ends leaves is_clean saves
       fails state address options c c' feed feed' held held' said said' status → IsDone status
-      → KeptSo path options feed feed' said
+      → KeptSo path address options feed feed' said
   kept_from state path address options c c' feed feed' held held' said said' status is sends done =
       by (subst (λ at. SendsFrom unread takes says passes opens closes remaining contents gives refuses ends leaves
       is_clean saves fails at address options c c' feed feed' held held' said said' status) is sends)
     where
       by : SendsFrom unread takes says passes opens closes remaining contents gives refuses ends leaves is_clean saves
           fails (Some path) address options c c' feed feed' held held' said said' status
-          → KeptSo path options feed feed' said
+          → KeptSo path address options feed feed' said
       by (inl run) = kept_so path address options c c' feed feed' held held' said said' status run done
       by (inr ((fault, refused, three, told), feed_is, same, connect)) = absurd (not_three status done three)
 
   -- ---- What a crash leaves.
 
-  pub record LeavesSo (path : List ℕ) (options : LiveOptions) (feed feed' : D) (said : Told) : Type 0 where
+  pub record LeavesSo (path : List ℕ) (address : ℕ) (options : LiveOptions) (feed feed' : D) (said : Told)
+      : Type 0 where
     pub lines : List (List ℕ × Given)
     pub takes_some : TakesSome options (unread feed) (unread feed') said lines
     pub s : ServerState
     pub before : Progress
-    pub k : K
     pub k' : K
-    pub given : gives path s before k
+    pub from : KeptFrom gives saves fails path address s before k'
     pub outlives : is_clean k' → (left : KeptServer) → leaves k' left
         → OutlivesLive opens closes remaining contents saves fails options before s (length (messages_in lines)) left
 
   leaves_so : (path : List ℕ) (address : ℕ) (options : LiveOptions) (c c' : C) (feed feed' : D)
       (held held' : Option (List ℕ)) (said said' : Told) (status : ℕ)
       → In path address options c c' feed feed' held held' said said' status
-      → LeavesSo path options feed feed' said
+      → LeavesSo path address options feed feed' said
   leaves_so path address options c c' feed feed' held held' said said' status run =
       let x : Standing ServerState K =
       record { runs = run.server; keeper = run.keeper; progress = run.progress; held = held } in
@@ -163,9 +184,8 @@ module _ {D C I O K : Type 0} (unread : D → Option (List ℕ))
         takes_some = takes_some;
         s = run.server;
         before = run.progress;
-        k = run.keeper;
         k' = run.keeper_after;
-        given = run.given;
+        from = kept_since path address options c c' feed feed' held held' said said' status run;
         outlives = λ clean. outlives
             (run.settled (clean_back unread takes says passes opens closes remaining contents leaves is_clean saves
             fails options c c' x run.keeper_after held' feed feed' said run.between run.status run.lives clean)) clean;
@@ -175,14 +195,14 @@ module _ {D C I O K : Type 0} (unread : D → Option (List ℕ))
       (feed feed' : D) (held held' : Option (List ℕ)) (said said' : Told) (status : ℕ) → state ≡ Some path
       → SendsFrom unread takes says passes opens closes remaining contents gives refuses ends leaves is_clean saves
       fails state address options c c' feed feed' held held' said said' status
-      → NothingBefore held held' status ⊎ LeavesSo path options feed feed' said
+      → NothingBefore held held' status ⊎ LeavesSo path address options feed feed' said
   leaves_from state path address options c c' feed feed' held held' said said' status is sends =
       by (subst (λ at. SendsFrom unread takes says passes opens closes remaining contents gives refuses ends leaves
       is_clean saves fails at address options c c' feed feed' held held' said said' status) is sends)
     where
       by : SendsFrom unread takes says passes opens closes remaining contents gives refuses ends leaves is_clean saves
           fails (Some path) address options c c' feed feed' held held' said said' status
-          → NothingBefore held held' status ⊎ LeavesSo path options feed feed' said
+          → NothingBefore held held' status ⊎ LeavesSo path address options feed feed' said
       by (inl run) = inr (leaves_so path address options c c' feed feed' held held' said said' status run)
       by (inr ((fault, refused, three, told), feed_is, same, connect)) =
           inl (
@@ -193,12 +213,13 @@ module _ {D C I O K : Type 0} (unread : D → Option (List ℕ))
 
   -- ---- What is told.
 
-  pub record ToldSo (options : LiveOptions) (feed feed' : D) (held held' : Option (List ℕ)) (said : Told)
-      (status : ℕ) : Type 0 where
+  pub record ToldSo (begins : ServerState → Progress → Type 0) (options : LiveOptions) (feed feed' : D)
+      (held held' : Option (List ℕ)) (said : Told) (status : ℕ) : Type 0 where
     pub lines : List (List ℕ × Given)
     pub takes_all : TakesAll options (unread feed) (unread feed') said lines
     pub s : ServerState
     pub before : Progress
+    pub begun : begins s before
     pub codes : List (Option Code)
     pub text : List ℕ
     pub again : ℕ
@@ -208,13 +229,14 @@ module _ {D C I O K : Type 0} (unread : D → Option (List ℕ))
     pub appended : Appends held held' text
     pub status_is : IsStatusOf lines codes status
 
-  told_so : {M : Type 0} (leaves_so : M → KeptServer → Type 0) (clean_so : M → Type 0)
-      (saves_so fails_so : M → KeptServer → M → Type 0) (options : LiveOptions) (c c' : C)
+  told_so : {M : Type 0} (begins : ServerState → Progress → Type 0) (leaves_so : M → KeptServer → Type 0)
+      (clean_so : M → Type 0) (saves_so fails_so : M → KeptServer → M → Type 0) (options : LiveOptions) (c c' : C)
       (x : Standing ServerState M) (k' : M) (held' : Option (List ℕ)) (feed feed' : D) (said said' : Told) (status : ℕ)
       → Lives unread takes says passes opens closes remaining contents leaves_so clean_so saves_so fails_so options c c'
-      x k' held' feed feed' said said' status → IsDone status
-      → ToldSo options feed feed' x.held held' said status
-  told_so leaves_so clean_so saves_so fails_so options c c' x k' held' feed feed' said said' status lives done =
+      x k' held' feed feed' said said' status → begins x.runs x.progress → IsDone status
+      → ToldSo begins options feed feed' x.held held' said status
+  told_so begins leaves_so clean_so saves_so fails_so options c c' x k' held' feed feed' said said' status lives begun
+      done =
       let (lines, takes_all, codes, text, count, (again, once, tells), appended, status_is) =
       told_is_taken_lem unread takes says passes opens closes remaining contents leaves_so clean_so saves_so fails_so
       options c c' x k' held' feed feed' said said' status lives done in
@@ -223,6 +245,7 @@ module _ {D C I O K : Type 0} (unread : D → Option (List ℕ))
         takes_all = takes_all;
         s = x.runs;
         before = x.progress;
+        begun = begun;
         codes = codes;
         text = text;
         again = again;
@@ -237,22 +260,24 @@ module _ {D C I O K : Type 0} (unread : D → Option (List ℕ))
       (feed feed' : D) (held held' : Option (List ℕ)) (said said' : Told) (status : ℕ)
       → SendsFrom unread takes says passes opens closes remaining contents gives refuses ends leaves is_clean saves
       fails state address options c c' feed feed' held held' said said' status → IsDone status
-      → ToldSo options feed feed' held held' said status
+      → ToldSo (BeginsWith gives state address) options feed feed' held held' said status
   told_from (Some path) address options c c' feed feed' held held' said said' status (inl run) done =
       let (well, same) = closed_well path run.status run.closed status run.between said' run.is_closed done in
-      let t = told_so leaves is_clean saves fails options c c'
+      let t = told_so (BeginsWith gives (Some path) address) leaves is_clean saves fails options c c'
       (record { runs = run.server; keeper = run.keeper; progress = run.progress; held = held }) run.keeper_after held'
-      feed feed' said run.between run.status run.lives (subst IsDone same done) in
-      subst (λ n. ToldSo options feed feed' held held' said n) (sym same) t
+      feed feed' said run.between run.status run.lives (run.address_is, (run.keeper, run.given))
+      (subst IsDone same done) in
+      subst (λ n. ToldSo (BeginsWith gives (Some path) address) options feed feed' held held' said n) (sym same) t
   told_from (Some path) address options c c' feed feed' held held' said said' status
       (inr ((fault, refused, three, told), feed_is, same, connect)) done = absurd (not_three status done three)
   told_from None address options c c' feed feed' held held' said said' status (keeper, keeper', lives) done =
-      told_so (λ k left. Unit {0}) (λ k. ⊥) (λ k left k'. k' ≡ k) (λ k left k'. ⊥) options c c' (record {
+      told_so (BeginsWith gives None address) (λ k left. Unit {0}) (λ k. ⊥) (λ k left k'. k' ≡ k) (λ k left k'. ⊥)
+      options c c' (record {
         runs = idle_at address;
         keeper = keeper;
         progress = record { taken = 0; joined = false };
         held = held;
-      }) keeper' held' feed feed' said said' status lives done
+      }) keeper' held' feed feed' said said' status lives (refl, refl) done
 
 -- ---- Over TCP.
 module _ {A J O K : Type 0} (answers : A → (milliseconds : Option ℕ) → Bool → A → Type 0)
@@ -339,9 +364,8 @@ module _ {A J O K : Type 0} (answers : A → (milliseconds : Option ℕ) → Boo
         },
         k.s,
         k.before,
-        k.k,
         k.k',
-        k.given,
+        k.from,
         k.ended,
         k.kept,
       )
@@ -418,9 +442,8 @@ module _ {A J O K : Type 0} (answers : A → (milliseconds : Option ℕ) → Boo
           },
           l.s,
           l.before,
-          l.k,
           l.k',
-          l.given,
+          l.from,
           l.outlives,
         )
       ]
@@ -482,6 +505,7 @@ module _ {A J O K : Type 0} (answers : A → (milliseconds : Option ℕ) → Boo
         },
         t.s,
         t.before,
+        t.begun,
         t.codes,
         t.text,
         t.again,

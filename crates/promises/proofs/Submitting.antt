@@ -36,11 +36,11 @@ none_taken progress s = ap (λ (t : ℕ). kept_of (record progress { taken = t }
     (let e : progress.taken ≡ progress.taken + 0 = omega arith in e)
 
 -- a server that holds fewer than eight takes a message
-room : {V : Type 0} (step : Step V) (taken : Taken V) (e : EncoderState V) (ready : IsReady e.ring)
+room : {V : Type 0} (step : Step V) (taken : Taken V) (e : EncoderState V) (before : ℕ) (ready : IsReady e.ring)
     (shut : e.part ≡ Closed)
-    (s : Station V) (acts : List Act) (m : List ℕ) → Backed step taken e ready shut s acts
+    (s : Station V) (acts : List Act) (m : List ℕ) → Backed step taken e before ready shut s acts
     → length s.world.server.held < 8 → is_none (refusal_of s.world.once (Submit m)) ≡ true
-room {V} step taken e ready shut s acts m h few =
+room {V} step taken e before ready shut s acts m h few =
     let law = lawful_of step taken e ready shut s.world acts h.now in
     let w : World V = s.world in
     let n : ℕ = length w.once.sent in
@@ -51,11 +51,12 @@ room {V} step taken e ready shut s acts m h few =
     lt-ltb n (least_missing w.once.acknowledged n + 8) (omega (arith, least, gone, more.0, few)) in
     ap (λ (b : Bool). is_none (cond b None (Some Busy))) fits
 
-module _ {V C I O : Type 0} (step : Step V) (taken : Taken V) (e : EncoderState V) (ready : IsReady e.ring)
+module _ {V C I O : Type 0} (step : Step V) (taken : Taken V) (e : EncoderState V) (before : ℕ) (ready : IsReady e.ring)
     (shut : e.part ≡ Closed) where
   -- a batch that finds room
   submitted_file : (s : Station V) (acts : List Act) (progress : Progress) (old : SenderOver C I O)
-      (batch : List (List ℕ)) → Backed step taken e ready shut s acts → AllByRecursion FitsOnDisks (submissions batch)
+      (batch : List (List ℕ)) → Backed step taken e before ready shut s acts
+      → AllByRecursion FitsOnDisks (submissions batch)
       → length s.world.server.held + length batch ≤ 8 → old.sender.server ≡ s.world.server
       → s.server_file ≡ kept_of progress s.world.server
       → (run_on_disks step taken e.address s (submissions batch)).server_file
@@ -63,7 +64,7 @@ module _ {V C I O : Type 0} (step : Step V) (taken : Taken V) (e : EncoderState 
   submitted_file s acts progress old [] h fits few same file =
       file ∙ ap (kept_of progress) (sym same) ∙ none_taken progress old.sender.server
   submitted_file s acts progress old (m ∷ batch) h fits few same file =
-      let open_ = room step taken e ready shut s acts m h (omega (arith, few)) in
+      let open_ = room step taken e before ready shut s acts m h (omega (arith, few)) in
       let s1 : Station V = station_after step taken e.address s (Submit m) in
       let held : Held = record { counter = next_counter s.world.server.last; message = m; marked = false } in
       let one : length s1.world.server.held ≡ length s.world.server.held + 1 =
@@ -71,7 +72,7 @@ module _ {V C I O : Type 0} (step : Step V) (taken : Taken V) (e : EncoderState 
       let file1 : s1.server_file ≡ kept_of (taking progress 1) s1.world.server =
       ap (λ (k : KeptServer). kept_of (taking (progress_in k) 1) (submitted s.world.server m)) file in
       let later = submitted_file s1 (acts ++ []) (taking progress 1) (submitted_to old m) batch
-      (backed_submit step taken e ready shut s acts m fits.0 open_ h) fits.1 (omega (arith, few, one))
+      (backed_submit step taken e before ready shut s acts m fits.0 open_ h) fits.1 (omega (arith, few, one))
       (ap (λ (d : ServerState). submitted d m) same) file1 in
       let first : after_disk_event step taken e.address s (Happens (Submit m)) ≡ s1 = rw open_ refl in
       ap (λ (x : Station V). (run_on_disks step taken e.address x (submissions batch)).server_file) first
@@ -88,14 +89,15 @@ saved_once_more between after progress server server' file stays becomes =
 
 pub what_is_left_of_server_lem : {V : Type 0} (C I O : Type 0) (step : Step V) (taken : Taken V)
     → WhatIsLeftIsAFile C I O step taken
-what_is_left_of_server_lem {V} C I O step taken e ready shut events fit progress old new batch hearing same file fits
+what_is_left_of_server_lem {V} C I O step taken e before ready shut events fit progress old new batch hearing same file
+    fits
     few =
-    let s : Station V = run_on_disks step taken e.address (station_from e) events in
-    let acts : List Act = history_on_disks step taken e.address (station_from e) events in
-    let h = backed step taken e ready shut events fit in
+    let s : Station V = run_on_disks step taken e.address (station_from e before) events in
+    let acts : List Act = history_on_disks step taken e.address (station_from e before) events in
+    let h = backed step taken e before ready shut events fit in
     let between : Station V = run_on_disks step taken e.address s (submissions batch) in
     let was = file ∙ ap (kept_of progress) (sym same) in
-    let submitted_is = submitted_file step taken e ready shut s acts progress old batch h fits few same file in
+    let submitted_is = submitted_file step taken e before ready shut s acts progress old batch h fits few same file in
     record {
       sends = λ left stays becomes outlives. elim outlives [
         | inl before ↦ inl (before.0 ∙ sym was)

@@ -1,6 +1,7 @@
 -- What holds of both ends with their files, over every list of events and crashes. Source: profile.
 use Rattle.std.specs.Prelude.{◌≡◌, ◌⊎◌, ℕ, zero, suc, ◌+◌, ◌≤◌, Bool, true, List, [], ◌∷◌, ◌++◌, length, map, is_none}
-use Rattle.std.specs.Prelude.{if◌then◌else◌}
+use Rattle.std.specs.Prelude.{Some, is_some, slice_get, if◌then◌else◌}
+use Rattle.uecp_elements.specs.declared.code.Code.{Code}
 use Rattle.std.specs.List.{AllByRecursion}
 use Rattle.uecp_frame.specs.Frame.{spelling}
 use Rattle.uecp_frame.specs.Findings.{Closed}
@@ -43,42 +44,46 @@ pub record IsALine {V : Type 0} (step : Step V) (taken : Taken V) (e : EncoderSt
 -- So it is of every list of events and crashes, from an encoder that is ready and a new server.
 abbrev pub CrashesAreLineEvents : {V : Type 0} → Step V → Taken V → Type 0
 CrashesAreLineEvents {V} step taken =
-    (e : EncoderState V) → IsReady e.ring → e.part ≡ Closed → (events : List DiskEvent)
+    (e : EncoderState V) (before : ℕ) → IsReady e.ring → e.part ≡ Closed → (events : List DiskEvent)
     → AllByRecursion FitsOnDisks events
-    → IsALine step taken e (run_on_disks step taken e.address (station_from e) events).world
-    (history_on_disks step taken e.address (station_from e) events)
+    → IsALine step taken e (run_on_disks step taken e.address (station_from e before) events).world
+    (history_on_disks step taken e.address (station_from e before) events)
 
 -- ---- The headline.
 
 -- What the files hold. The encoder's is what is to be kept of it. Of the messages that were sent the server's has those
 -- outstanding, under their counters, that it does not show to be acknowledged; it shows so what was told; and it counts
--- as taken from the input each message that was sent, and no other, so that the next one comes next.
-pub record FilesHold {V : Type 0} (s : Station V) : Type 0 where
+-- as taken from the input, besides those of before, each message that was sent, and no other, so that the next one
+-- comes next.
+pub record FilesHold {V : Type 0} (before : ℕ) (s : Station V) : Type 0 where
   pub encoder : s.encoder_file ≡ encoder_kept s.world.encoder
   pub outstanding : waiting_among s.server_file.held ≡ map (λ k. (counter_of k, message_at s.world.once.sent k))
       (missing (acknowledged_by s.server_file.held (length s.world.once.sent)) (length s.world.once.sent))
-  pub told : (k : ℕ) → s.told k ≡ true → acknowledged_by s.server_file.held (length s.world.once.sent) k ≡ true
-  pub taken : s.server_file.taken ≡ length s.world.once.sent
+  pub told : (k : ℕ) → is_some (s.told k) ≡ true
+      → acknowledged_by s.server_file.held (length s.world.once.sent) k ≡ true
+  pub taken : s.server_file.taken ≡ before + length s.world.once.sent
 
 -- The line of these ends and messages has the headline, with this history; what was told is acknowledged, so that it is
--- among the messages that the encoder's store has; and the files hold what they should.
-pub record HoldsWithDisks {V : Type 0} (step : Step V) (taken : Taken V) (e : EncoderState V) (s : Station V)
-    (acts : List Act) : Type 0 where
+-- among the messages that the encoder's store has, and where it was told with a code, that is the message's own; and
+-- the files hold what they should.
+pub record HoldsWithDisks {V : Type 0} (step : Step V) (taken : Taken V) (e : EncoderState V) (before : ℕ)
+    (s : Station V) (acts : List Act) : Type 0 where
   pub line : LineState V
   pub encoder : line.encoder ≡ s.world.encoder
   pub server : line.server ≡ s.world.server
   pub holds : Holds line s.world.once
   pub headline : IsHeadline step taken e.address e.value acts line
-  pub told : (k : ℕ) → s.told k ≡ true → is_acknowledged line k ≡ true
-  pub files : FilesHold s
+  pub told : (k : ℕ) → is_some (s.told k) ≡ true → is_acknowledged line k ≡ true
+  pub code : (k : ℕ) (code : Code) → s.told k ≡ Some (Some code) → slice_get line.codes k ≡ Some code
+  pub files : FilesHold before s
 
 -- So it is over every list of events and crashes, from an encoder that is ready and a new server.
 abbrev pub HeadlineWithDisks : {V : Type 0} → Step V → Taken V → Type 0
 HeadlineWithDisks {V} step taken =
-    (e : EncoderState V) → IsReady e.ring → e.part ≡ Closed → (events : List DiskEvent)
+    (e : EncoderState V) (before : ℕ) → IsReady e.ring → e.part ≡ Closed → (events : List DiskEvent)
     → AllByRecursion FitsOnDisks events
-    → HoldsWithDisks step taken e (run_on_disks step taken e.address (station_from e) events)
-    (history_on_disks step taken e.address (station_from e) events)
+    → HoldsWithDisks step taken e before (run_on_disks step taken e.address (station_from e before) events)
+    (history_on_disks step taken e.address (station_from e before) events)
 
 -- ---- No crash stops the line.
 
@@ -86,8 +91,8 @@ HeadlineWithDisks {V} step taken =
 -- that was sent is acknowledged once the frame of each that is not came, and the reply to each.
 abbrev pub AcknowledgedAfterAnyCrash : {V : Type 0} → Step V → Taken V → Type 0
 AcknowledgedAfterAnyCrash {V} step taken =
-    (address : ℕ) (value : V) (events : List DiskEvent) → AllByRecursion FitsOnDisks events
-    → let s = run_on_disks step taken address (station_from (opening address value)) events in
+    (address : ℕ) (value : V) (before : ℕ) (events : List DiskEvent) → AllByRecursion FitsOnDisks events
+    → let s = run_on_disks step taken address (station_from (opening address value) before) events in
     IsDone (run_on_disks step taken address s
     (map Happens (all_come (missing s.world.once.acknowledged (length s.world.once.sent))))).world
 
@@ -172,9 +177,9 @@ pub record LeavesAFile {V C I O : Type 0} (step : Step V) (taken : Taken V) (add
 -- So it is from whatever events and crashes have led to.
 abbrev pub WhatIsLeftIsAFile : {V : Type 0} → (C I O : Type 0) → Step V → Taken V → Type 0
 WhatIsLeftIsAFile {V} C I O step taken =
-    (e : EncoderState V) → IsReady e.ring → e.part ≡ Closed → (events : List DiskEvent)
+    (e : EncoderState V) (before : ℕ) → IsReady e.ring → e.part ≡ Closed → (events : List DiskEvent)
     → AllByRecursion FitsOnDisks events
-    → let s = run_on_disks step taken e.address (station_from e) events in
+    → let s = run_on_disks step taken e.address (station_from e before) events in
     (progress : Progress) (old new : SenderOver C I O) (batch : List (List ℕ)) (hearing : List DiskEvent)
     → old.sender.server ≡ s.world.server → s.server_file ≡ server_kept progress s.world.server
     → AllByRecursion FitsOnDisks (submissions batch) → length s.world.server.held + length batch ≤ 8

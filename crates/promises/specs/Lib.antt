@@ -10,6 +10,9 @@ pub use Rattle.rds_groups.specs.Damage
 pub mod Station
 pub mod Acts
 pub mod CrashLaws
+pub mod Epochs
+pub mod Coming
+pub mod Display
 pub mod DeviceLives
 pub mod DeviceRuns
 pub mod Taken

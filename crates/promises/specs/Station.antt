@@ -1,14 +1,15 @@
 -- A line both of whose ends keep their state in a file, and what may happen to it, crashes too; a reader has to believe
 -- it. Source: profile.
-use Rattle.std.specs.Prelude.{ℕ, ◌-◌, ◌==◌, ◌||◌, nat_lt, Bool, true, false, List, [], ◌∷◌, length, take, is_none}
-use Rattle.std.specs.Prelude.{if◌then◌else◌}
+use Rattle.std.specs.Prelude.{ℕ, ◌-◌, ◌==◌, ◌||◌, ◌&&◌, not, nat_lt, Bool, true, false, List, [], ◌∷◌, length, take}
+use Rattle.std.specs.Prelude.{is_none, Option, Some, None, if◌then◌else◌}
+use Rattle.uecp_elements.specs.declared.code.Code.{Code}
 use Rattle.uecp_frame.specs.Frame.{spelling}
 use Rattle.uecp_encoder.specs.Target.{Step, Taken}
 use Rattle.uecp_encoder.specs.State.{EncoderState, fed}
 use Rattle.uecp_encoder.specs.Answering.{responses_to}
 use Rattle.uecp_link.specs.Server.{ServerState, Held, is_marked, idle_at, submitted}
 use Rattle.uecp_link.specs.Once.{Event, Submit, FrameComes, ReplyComes, NoiseToEncoder, NoiseToServer}
-use Rattle.uecp_link.specs.Once.{ServerLost, EncoderRestart, ServerRestart, Take, refusal_of, after}
+use Rattle.uecp_link.specs.Once.{ServerLost, EncoderRestart, ServerRestart, Take, Once, refusal_of, after}
 use Rattle.uecp_link.specs.Law.{World, frame_of, encoder_after, server_after, start_from, Fits}
 use Rattle.uecp_encoder.specs.ServingWith.{fresh_among}
 use Rattle.uecp_encoder.specs.Keeping.{Kept}
@@ -17,19 +18,22 @@ use Rattle.uecp_net.specs.declared.saved.keep.Progress.{Progress}
 use Rattle.uecp_net.specs.Keeping.{KeptServer, taking}
 use Rattle.uecp_net.specs.Keeping.{kept_of as server_kept, going_on as server_going_on}
 
--- The two ends with the once-machine beside them, what the file of each end holds, and of which numbers the server's
--- user was told that they are acknowledged.
+-- The two ends with the once-machine beside them, what the file of each end holds, and by number: the code with which a
+-- message was acknowledged, as far as the server heard that since it was started; and what its user was told of it,
+-- nothing yet, or that it is acknowledged, with its code, or with none, where a crash took that.
 pub record Station (V : Type 0) : Type 0 where
   pub world : World V
   pub encoder_file : Kept V
   pub server_file : KeptServer
-  pub told : ℕ → Bool
+  pub heard : ℕ → Option Code
+  pub told : ℕ → Option (Option Code)
 
 -- What may happen. A crash takes an end's memory, and then an end goes on from the file.
 pub data DiskEvent : Type 0 where
   Happens : Event → DiskEvent  -- an event of the line; the restart of an end is a crash between two events
   CutOff : Event → (came : ℕ) → (saved : Bool) → DiskEvent  -- within an event the end that it is at crashes
   ServerSaves : DiskEvent  -- the server is saved, and then what is acknowledged is told
+  ServerCut : DiskEvent  -- the server is saved, and crashes before anything of that is told
 
 -- ---- What the files hold.
 
@@ -61,6 +65,21 @@ server_file_after s file _ = file
 abbrev pub acknowledged_by : (held : List Held) → (sent : ℕ) → ℕ → Bool
 acknowledged_by held sent k = nat_lt k (sent - length held) || is_marked held (k - (sent - length held))
 
+-- ---- What the server hears, and tells.
+
+-- The codes that the server heard, after an event: that of a reply by which a message is acknowledged, and no other's.
+abbrev pub heard_after : {V : Type 0} → Once V → (ℕ → Option Code) → Event → ℕ → Option Code
+heard_after o heard (ReplyComes k) = λ j. if j == k && not (o.acknowledged k) then o.codes k else heard j
+heard_after o heard _ = heard
+
+-- What is told of a message behind a save: of one that is acknowledged, its code as far as it was heard. Of each it is
+-- told once.
+abbrev pub told_after : (before : Option (Option Code)) → (acknowledged : Bool) → (heard : Option Code)
+    → Option (Option Code)
+told_after (Some told) acknowledged heard = Some told
+told_after None true heard = Some heard
+told_after None false heard = None
+
 -- ---- What happens.
 
 -- The ends and the once-machine after an event that is not refused, as `happens` of `uecp_link` says.
@@ -71,12 +90,13 @@ world_after step taken address w event = record {
   once = after step taken w.once event;
 }
 
--- The station after an event of the line that is not refused: the ends as above, and their files.
+-- The station after an event of the line that is not refused: the ends as above, their files, and what was heard.
 abbrev pub station_after : {V : Type 0} → Step V → Taken V → ℕ → Station V → Event → Station V
 station_after step taken address s event = record {
   world = world_after step taken address s.world event;
   encoder_file = encoder_file_after step taken address s.world s.encoder_file event;
   server_file = server_file_after s.world.server s.server_file event;
+  heard = heard_after s.world.once s.heard event;
   told = s.told;
 }
 
@@ -89,7 +109,8 @@ encoder_crashes address s = record s {
   };
 }
 
--- The server crashes, and goes on from its file: acknowledged is what the file shows to be, and no more.
+-- The server crashes, and goes on from its file: acknowledged is what the file shows to be, and no more; no file has a
+-- code.
 abbrev pub server_crashes : {V : Type 0} → ℕ → Station V → Station V
 server_crashes address s = record s {
   world = record s.world {
@@ -99,13 +120,17 @@ server_crashes address s = record s {
       to_server = [];
     };
   };
+  heard = λ k. None;
 }
 
--- The server is saved as it is, and then what is acknowledged is told.
+-- The server is saved as it is.
+abbrev pub server_saved : {V : Type 0} → Station V → Station V
+server_saved s = record s { server_file = server_kept (progress_in s.server_file) s.world.server }
+
+-- It is saved as it is, and then what is acknowledged is told.
 abbrev pub server_saves : {V : Type 0} → Station V → Station V
-server_saves s = record s {
-  server_file = server_kept (progress_in s.server_file) s.world.server;
-  told = λ k. s.told k || acknowledged_by s.world.server.held (length s.world.once.sent) k;
+server_saves s = record (server_saved s) {
+  told = λ k. told_after (s.told k) (acknowledged_by s.world.server.held (length s.world.once.sent) k) (s.heard k);
 }
 
 -- Of bytes that come to the encoder these came, and what had to be saved for them was.
@@ -149,6 +174,7 @@ after_disk_event step taken address s (CutOff event came saved) = if is_none (re
     then cut_off step taken address s event came saved
     else s
 after_disk_event step taken address s ServerSaves = server_saves s
+after_disk_event step taken address s ServerCut = server_crashes address (server_saved s)
 
 -- Events happen in turn.
 abbrev pub run_on_disks : {V : Type 0} → Step V → Taken V → ℕ → Station V → List DiskEvent → Station V
@@ -156,13 +182,15 @@ run_on_disks step taken address s [] = s
 run_on_disks step taken address s (event ∷ events) =
     run_on_disks step taken address (after_disk_event step taken address s event) events
 
--- This encoder and a new server for it, each as its file has it, and nothing is told.
-abbrev pub station_from : {V : Type 0} → EncoderState V → Station V
-station_from e = record {
+-- This encoder and a new server for it, each as its file has it; so many lines were taken before, as by servers before
+-- this one, and nothing is told.
+abbrev pub station_from : {V : Type 0} → EncoderState V → (before : ℕ) → Station V
+station_from e before = record {
   world = start_from e;
   encoder_file = encoder_kept e;
-  server_file = server_kept (record { taken = 0; joined = true }) (idle_at e.address);
-  told = λ k. false;
+  server_file = server_kept (record { taken = before; joined = true }) (idle_at e.address);
+  heard = λ k. None;
+  told = λ k. None;
 }
 
 -- A message that is submitted fits a frame.
@@ -170,3 +198,4 @@ abbrev pub FitsOnDisks : DiskEvent → Type 0
 FitsOnDisks (Happens event) = Fits event
 FitsOnDisks (CutOff event came saved) = Fits event
 FitsOnDisks ServerSaves = Unit {0}
+FitsOnDisks ServerCut = Unit {0}

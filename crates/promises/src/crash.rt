@@ -3,6 +3,8 @@
 //! the file, the line holds what a line without a crash holds.
 ghost use Rattle.promises.specs.CrashLaws.{CrashesAreLineEvents, HeadlineWithDisks, AcknowledgedAfterAnyCrash};
 ghost use Rattle.promises.specs.CrashLaws.{WhatIsLeftIsACut, WhatIsLeftIsAFile};
+ghost use Rattle.promises.specs.Epochs.{HeadlineOverEpochs};
+ghost use Rattle.promises.specs.Coming.{BeginningsAreEvents};
 
 use uecp_encoder::Target;
 use uecp_net::Connections;
@@ -21,10 +23,23 @@ pub fn crashes_are_line_events<T: Target>()
 /// prefix of the sent messages with the takes between makes, each applied once and in order; every acknowledged message
 /// is in it with its one reply, and every message that is missing is still outstanding. A message is sent once the
 /// server's file has it: before that no byte of it leaves. Whatever was told to be acknowledged is acknowledged, in the
-/// server's memory and in its file, after any crash too; and of the messages that were sent the file has each that it
-/// does not show to be acknowledged.
+/// server's memory and in its file, after any crash too, and a code that was told is that of the message's own reply;
+/// and of the messages that were sent the file has each that it does not show to be acknowledged.
+///
+/// The file may have counted any number of lines before, as of servers before this one.
 pub fn headline_with_disks<T: Target>()
     ensures { HeadlineWithDisks T.step T.taken }
+{}
+
+/// Over any number of beginnings anew, at each of which the server gives up what waits, and its encoder, or another one
+/// in its place, was joined: from each up to the next the headline holds, of the messages that were sent in between and
+/// the store that the encoder had; and of each line, by its number in the file, one thing at most is told.
+///
+/// How a join comes about is no event here: its premise is an encoder that is ready, as
+/// [`joined_over_a_line`](uecp_link::laws::joined_over_a_line) says of a complete pass. What is given up, or of a
+/// station that a crash cut is sent again, is outstanding in the epoch before.
+pub fn headline_over_epochs<T: Target>()
+    ensures { HeadlineOverEpochs T.step T.taken }
 {}
 
 /// No crash stops the line: whatever happened and crashed, where nothing is lost any more and no end crashes, every
@@ -43,4 +58,12 @@ pub fn what_is_left_is_a_cut<T: Target>()
 /// here: as it was, with the batch submitted, or after one more save.
 pub fn what_is_left_is_a_file<T: Target, C: Connections>()
     ensures { WhatIsLeftIsAFile C C.Input C.Output T.step T.taken }
+{}
+
+/// On a new connection whatever comes of what was written on it, cut anywhere, are events of the line, none of them
+/// refused: so many frames, or replies, come whole, and then a beginning of the next. That nothing comes too late is no
+/// premise of this, and neither is that what is cut holds no whole frame: what is written are frames of the last
+/// messages, and replies to them.
+pub fn beginnings_are_events<T: Target>()
+    ensures { BeginningsAreEvents T.step T.taken }
 {}
