@@ -55,3 +55,4 @@ pub mod Sending
 pub mod Happening
 pub mod OverLines
 pub mod BatchRuns
+pub mod RunMessages

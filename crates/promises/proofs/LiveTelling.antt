@@ -1,7 +1,8 @@
 -- What turns and senders tell.
 use Rattle.std.proofs.Common.{arith, ◌≡◌, ◌⊎◌, ℕ, zero, suc, ◌+◌, ◌-◌, ◌≤◌, Bool, true, false, ◌&&◌, List, [], ◌++◌}
 use Rattle.std.proofs.Common.{length}
-use Rattle.std.proofs.Common.{Option, Ok, Err, refl, sym, ap, subst, ◌∙◌, inl, inr, length-append}
+use Rattle.std.proofs.Common.{Option, Ok, Err, refl, sym, ap, subst, ◌∙◌, inl, inr, append_assoc, append-nil}
+use Rattle.std.proofs.Common.{length-append}
 use Rattle.std.specs.Io.KnownBytes.{Appends}
 use Rattle.std.specs.List.{list_all}
 use Rattle.std.proofs.lemmas.List.Folds.{list_all-append}
@@ -31,7 +32,9 @@ use Rattle.sending.specs.Lines.{is_applied}
 use Rattle.sending.specs.Run.{AnswersTold, RepliesOf, SendsSome, unknown_of, are_applied}
 use Rattle.promises.proofs.OverLines.{Live, Turn, GoesOnFor, RunsTurns}
 use Rattle.promises.specs.LiveTold.{AreAnswers}
+use Rattle.promises.proofs.RunMessages.{of_going, of_turns}
 use Rattle.promises.proofs.LiveAnswering.{replied, replied_count, replied_append, replies_told, answers_append}
+use Rattle.promises.proofs.LiveAnswering.{none_lost, batch_waits}
 use Rattle.promises.proofs.LiveTurns.{turn_part}
 use Rattle.promises.proofs.Unknown.{turn_unknown}
 
@@ -68,39 +71,55 @@ module _ {C I O K : Type 0} (opens : C → Option (I × O) → C → Type 0) (cl
   abbrev At : Type 0
   At = Standing (SenderOver C I O) K
 
-  -- the codes of messages were told, each under its number, and so many more were taken
-  pub record Told (x x' : At) (was is : Bool) (unknown' : ℕ) : Type 0 where
+  -- These were taken: messages whose codes were told, each under its number, and behind them so many that are lost, of
+  -- which nothing was told.
+  pub record Told (all : List (List ℕ)) (x x' : At) (was is : Bool) (unknown' : ℕ) : Type 0 where
+    pub messages : List (List ℕ)
+    pub lost : List (List ℕ)
     pub codes : List Code
     pub lines : List ℕ
-    pub answers : AreAnswers form (x.progress.taken + 1) (replied codes) lines
+    pub are_all : all ≡ messages ++ lost
+    pub many : length lost ≡ unknown'
+    pub answers : AreAnswers form (x.progress.taken + 1) messages (replied codes) lines
     pub appended : Appends x.held x'.held lines
     pub counted : x'.progress.taken ≡ x.progress.taken + (length codes + unknown')
     pub applied : is ≡ true → (was ≡ true) × (list_all is_applied codes ≡ true)
 
-  told_none : (x : At) (is : Bool) (unknown' : ℕ) → unknown' ≡ 0 → Told x x is is unknown'
+  told_none : (x : At) (is : Bool) (unknown' : ℕ) → unknown' ≡ 0 → Told [] x x is is unknown'
   told_none x is unknown' none = record {
+    messages = [];
+    lost = [];
     codes = [];
     lines = [];
+    are_all = refl;
+    many = sym none;
     answers = refl;
     appended = appends_nothing x.held;
     counted = omega (arith, none);
     applied = λ all_so. (all_so, refl);
   }
 
-  told_on : (x y z : At) (a b c : Bool) (unknown' : ℕ) → Told x y a b 0 → Told y z b c unknown'
-      → Told x z a c unknown'
-  told_on x y z a b c unknown' one rest =
+  told_on : (s t : List (List ℕ)) (x y z : At) (a b c : Bool) (unknown' : ℕ) → Told s x y a b 0
+      → Told t y z b c unknown' → Told (s ++ t) x z a c unknown'
+  told_on s t x y z a b c unknown' one rest =
       let counted = one.counted in
       let number = replied_count one.codes in
       let place : y.progress.taken + 1 ≡ x.progress.taken + 1 + length (replied one.codes) =
       omega (arith, counted, number) in
       record {
+        messages = one.messages ++ rest.messages;
+        lost = rest.lost;
         codes = one.codes ++ rest.codes;
         lines = one.lines ++ rest.lines;
-        answers = subst (λ l. AreAnswers form (x.progress.taken + 1) l (one.lines ++ rest.lines))
+        are_all = ap (λ l. l ++ t) (none_lost s one.messages one.lost one.are_all one.many)
+            ∙ ap (λ l. one.messages ++ l) rest.are_all ∙ sym (append_assoc one.messages rest.messages rest.lost);
+        many = rest.many;
+        answers = subst (λ l. AreAnswers form (x.progress.taken + 1) (one.messages ++ rest.messages) l
+            (one.lines ++ rest.lines))
             (sym (replied_append one.codes rest.codes))
-            (answers_append form (x.progress.taken + 1) (replied one.codes) (replied rest.codes) one.lines rest.lines
-            one.answers (subst (λ n. AreAnswers form n (replied rest.codes) rest.lines) place rest.answers));
+            (answers_append form (x.progress.taken + 1) one.messages rest.messages (replied one.codes)
+            (replied rest.codes) one.lines rest.lines one.answers
+            (subst (λ n. AreAnswers form n rest.messages (replied rest.codes) rest.lines) place rest.answers));
         appended = appends_then x.held y.held z.held one.lines rest.lines one.appended rest.appended;
         counted = (let a = rest.counted in let b = length-append one.codes rest.codes in
             omega (arith, a, b, counted));
@@ -140,7 +159,7 @@ module _ {C I O K : Type 0} (opens : C → Option (I × O) → C → Type 0) (cl
       → AnswersTold (Numbered form) (RepliesOf (Numbered form) x'.progress.taken
       (waiting (submitted_all x.runs batch).sender.server)) x'.runs.sender.server.counts ended x.held x'.held
       went
-      → unknown' ≡ unknown_of (length batch) ended → Onward went unknown' → Told x x' was is unknown'
+      → unknown' ≡ unknown_of (length batch) ended → Onward went unknown' → Told batch x x' was is unknown'
   told_batch batch (Ok settled) x x' was is unknown' went apply idle one (told, is_told, tells) are onward =
       let number : length settled.codes.items ≡ length batch = all_told batch settled x x' idle one.sends in
       let taken : x'.progress.taken ≡ x.progress.taken + length batch =
@@ -148,12 +167,18 @@ module _ {C I O K : Type 0} (opens : C → Option (I × O) → C → Type 0) (cl
       let first : x'.progress.taken + 1 - length settled.codes.items ≡ x.progress.taken + 1 =
       omega (arith, number, taken) in
       record {
+        messages = batch;
+        lost = [];
         codes = settled.codes.items;
         lines = told;
-        answers = subst (λ n. AreAnswers form n (replied settled.codes.items) told) first
+        are_all = sym (append-nil batch);
+        many = sym are;
+        answers = subst (λ n. AreAnswers form n batch (replied settled.codes.items) told) first
+            (subst (λ ms. AreAnswers form (x'.progress.taken + 1 - length settled.codes.items) ms
+            (replied settled.codes.items) told) (batch_waits x.runs batch idle)
             (replies_told form (x'.progress.taken + 1 - length settled.codes.items)
             (waiting (submitted_all x.runs batch).sender.server) settled told
-            (all_waiting batch x idle ∙ sym number) is_told);
+            (all_waiting batch x idle ∙ sym number) is_told));
         appended = told_all told x.held x'.held went tells (goes_with_none went unknown' are onward);
         counted = omega (arith, number, taken, are);
         applied = λ all_so. both was (list_all is_applied settled.codes.items) (sym apply ∙ all_so);
@@ -163,8 +188,12 @@ module _ {C I O K : Type 0} (opens : C → Option (I × O) → C → Type 0) (cl
       let taken : x'.progress.taken ≡ x.progress.taken + length batch =
       ap (λ (p : Progress). p.taken) one.progress in
       record {
+        messages = [];
+        lost = batch;
         codes = [];
         lines = [];
+        are_all = refl;
+        many = sym are;
         answers = refl;
         appended = subst (λ h. Appends x.held h []) (sym same) (appends_nothing x.held);
         counted = omega (arith, taken, are);
@@ -181,10 +210,11 @@ module _ {C I O K : Type 0} (opens : C → Option (I × O) → C → Type 0) (cl
       → x.runs.sender.server.held ≡ [] → unknown ≡ 0
       → SendsSome opens closes remaining contents leaves is_clean saves fails (Numbered form) batch x x' applied
       applied' unknown
-      unknown' went → Onward went unknown' → Told x x' applied applied' unknown'
+      unknown' went → Onward went unknown' → Told batch x x' applied applied' unknown'
   told_some batch x x' applied applied' unknown unknown' went idle zero_is (inl (none, same, apply, are, is)) onward =
-      subst (λ y. Told x y applied applied' unknown') (sym same)
-      (subst (λ b. Told x x b applied' unknown') apply (told_none x applied' unknown' (are ∙ zero_is)))
+      subst (λ ms. Told ms x x' applied applied' unknown') (sym none)
+      (subst (λ y. Told [] x y applied applied' unknown') (sym same)
+      (subst (λ b. Told [] x x b applied' unknown') apply (told_none x applied' unknown' (are ∙ zero_is))))
   told_some batch x x' applied applied' unknown unknown' went idle zero_is
       (inr (some, (ended, one, tells, apply, are))) onward =
       told_batch batch ended x x' applied applied' unknown' went apply idle one tells are onward
@@ -199,8 +229,8 @@ module _ {C I O K : Type 0} (opens : C → Option (I × O) → C → Type 0) (cl
     OneTurn = Turn opens closes remaining contents leaves is_clean saves fails form input size strict
 
     told_turn : (x x' : LiveAt) (after : After) (went : Went) → x.sends.runs.sender.server.held ≡ [] → x.unknown ≡ 0
-        → OneTurn x x' after went → Onward went x'.unknown
-        → Told x.sends x'.sends x.applied x'.applied x'.unknown
+        → (turn : OneTurn x x' after went) → Onward went x'.unknown
+        → Told turn.messages x.sends x'.sends x.applied x'.applied x'.unknown
     told_turn x x' after went idle none turn onward =
         told_some turn.messages x.sends x'.sends x.applied x'.applied x.unknown x'.unknown went idle none turn.sends
         onward
@@ -212,16 +242,22 @@ module _ {C I O K : Type 0} (opens : C → Option (I × O) → C → Type 0) (cl
         size
         strict x x' after goes turn in part.called.idle refl idle
 
+    -- the messages of so many turns
+    abbrev gone : (n : ℕ) → (x y : LiveAt)
+        → GoesOnFor opens closes remaining contents leaves is_clean saves fails form input size strict n x y
+        → List (List ℕ)
+    gone = of_going opens closes remaining contents leaves is_clean saves fails form input size strict
+
     -- where a run stands after some turns
-    record Going (x y : LiveAt) : Type 0 where
-      pub told : Told x.sends y.sends x.applied y.applied 0
+    record Going (all : List (List ℕ)) (x y : LiveAt) : Type 0 where
+      pub told : Told all x.sends y.sends x.applied y.applied 0
       pub idle : y.sends.runs.sender.server.held ≡ []
       pub none : y.unknown ≡ 0
 
     told_going : (n : ℕ) (x y : LiveAt) → x.sends.runs.sender.server.held ≡ [] → x.unknown ≡ 0
-        → GoesOnFor opens closes remaining contents leaves is_clean saves fails form input size strict n x y → Going x
-        y
-    told_going zero x y idle none same = subst (λ (z : LiveAt). Going x z) (sym same) (record {
+        → (turns : GoesOnFor opens closes remaining contents leaves is_clean saves fails form input size strict n x y)
+        → Going (gone n x y turns) x y
+    told_going zero x y idle none same = subst (λ (z : LiveAt). Going [] x z) (sym same) (record {
       told = told_none x.sends x.applied 0 refl;
       idle = idle;
       none = none;
@@ -230,29 +266,34 @@ module _ {C I O K : Type 0} (opens : C → Option (I × O) → C → Type 0) (cl
         let so = told_going n x y idle none before in
         let zero_is = turn_unknown opens closes remaining contents leaves is_clean saves fails form input size strict y
         z GoesOn so.none turn in record {
-          told = told_on x.sends y.sends z.sends x.applied y.applied z.applied 0 so.told
-              (subst (λ u. Told y.sends z.sends y.applied z.applied u) zero_is
+          told = told_on (gone n x y before) turn.messages x.sends y.sends z.sends x.applied y.applied z.applied 0
+              so.told
+              (subst (λ u. Told turn.messages y.sends z.sends y.applied z.applied u) zero_is
               (told_turn y z GoesOn goes so.idle so.none turn (inl refl)));
           idle = turn_idle y z GoesOn so.idle turn;
           none = zero_is;
         }
 
     pub told_turns : (x x' : LiveAt) (went : Went) → x.sends.runs.sender.server.held ≡ [] → x.unknown ≡ 0
-        → RunsTurns opens closes remaining contents leaves is_clean saves fails form input size strict x x' went
-        → Onward went x'.unknown → Told x.sends x'.sends x.applied x'.applied x'.unknown
+        → (turns : RunsTurns opens closes remaining contents leaves is_clean saves fails form input size strict x x'
+        went)
+        → Onward went x'.unknown
+        → Told (of_turns opens closes remaining contents leaves is_clean saves fails form input size strict x x' went
+        turns) x.sends x'.sends x.applied x'.applied x'.unknown
     told_turns x x' went idle none (n, y, before, inl (inl (end, turn, is))) onward =
         let so = told_going n x y idle none before in
-        told_on x.sends y.sends x'.sends x.applied y.applied x'.applied x'.unknown so.told
-        (told_turn y x' (Ends end) goes so.idle so.none turn (inl refl))
+        told_on (gone n x y before) turn.messages x.sends y.sends x'.sends x.applied y.applied x'.applied x'.unknown
+        so.told (told_turn y x' (Ends end) goes so.idle so.none turn (inl refl))
     told_turns x x' went idle none (n, y, before, inl (inr (after, stop, turn, is))) onward =
         let so = told_going n x y idle none before in
-        told_on x.sends y.sends x'.sends x.applied y.applied x'.applied x'.unknown so.told
+        told_on (gone n x y before) turn.messages x.sends y.sends x'.sends x.applied y.applied x'.applied x'.unknown
+        so.told
         (told_turn y x' after (stopped stop) so.idle so.none turn
         (inr (some_where_stopped stop went x'.unknown is onward)))
     told_turns x x' went idle none (n, y, before, inr (all, same, is)) onward =
         let so = told_going n x y idle none before in
-        subst (λ (z : LiveAt). Told x.sends z.sends x.applied z.applied z.unknown) (sym same)
-        (subst (λ u. Told x.sends y.sends x.applied y.applied u) (sym so.none) so.told)
+        subst (λ (z : LiveAt). Told (gone n x y before) x.sends z.sends x.applied z.applied z.unknown) (sym same)
+        (subst (λ u. Told (gone n x y before) x.sends y.sends x.applied y.applied u) (sym so.none) so.told)
 
     -- a run that goes on leaves none outstanding
     pub turns_unknown : (x x' : LiveAt) (went : Went) → x.sends.runs.sender.server.held ≡ [] → x.unknown ≡ 0

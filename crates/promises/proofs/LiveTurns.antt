@@ -22,8 +22,10 @@ use Rattle.output_forms.specs.declared.form.Form.{Form}
 use Rattle.sending.specs.Run.{ended_as}
 use Rattle.promises.proofs.OverLines.{Live, Turn, GoesOnFor, RunsTurns}
 use Rattle.promises.specs.Taken.{Pauses, ComesToEnd, Passes}
-use Rattle.promises.proofs.LiveLines.{same_fault, messages_count, lines_on, pauses_after, goes_on_after, ends_on}
+use Rattle.promises.proofs.LiveLines.{same_fault, messages_append, messages_count, lines_on, pauses_after}
+use Rattle.promises.proofs.LiveLines.{goes_on_after, ends_on}
 use Rattle.promises.proofs.LiveLines.{comes_to_end, none_on, passes_on, passes_after, Stands, stands_after, stands_on}
+use Rattle.promises.proofs.RunMessages.{of_going, of_turns}
 use Rattle.promises.proofs.Unknown.{turn_unknown, going_unknown}
 use Rattle.promises.proofs.Statuses.{taking_status}
 use Rattle.promises.proofs.Calls.{Called, called_none, called_on, called_stops, sends_some}
@@ -49,39 +51,45 @@ module _ {C I O K : Type 0} (opens : C → Option (I × O) → C → Type 0) (cl
         ⊎ ((fault : RunFault) × (after ≡ Ends (Err fault)) × (FailsToTake y z fault ⊎ LeavesLine input y z fault)
         × NoneRefused strict taken)
 
-    -- lines were taken up to there, and what they gave was sent
-    pub record Part (lines : List (List ℕ × Given)) (x : LiveAt) (mid : Intake) (x' : At) (went : Went) : Type 0 where
+    -- lines were taken up to there, which gave these messages, and these were sent
+    pub record Part (lines : List (List ℕ × Given)) (messages : List (List ℕ)) (x : LiveAt) (mid : Intake) (x' : At)
+        (went : Went) : Type 0 where
       pub takes : TakesLines input lines x.takes mid
+      pub give : messages_in lines ≡ messages
       pub called : Called opens closes remaining contents leaves is_clean saves fails (length (messages_in lines))
           x.sends
           x' went
 
-    part_none : (x : LiveAt) → Part [] x x.takes x.sends goes
+    part_none : (x : LiveAt) → Part [] [] x x.takes x.sends goes
     part_none x = record {
       takes = refl;
+      give = refl;
       called = called_none opens closes remaining contents leaves is_clean saves fails x.sends goes refl;
     }
 
-    part_on : (a b : List (List ℕ × Given)) (x y : LiveAt) (mid : Intake) (x' : At) (went : Went)
-        → Part a x y.takes y.sends goes → Part b y mid x' went → Part (a ++ b) x mid x' went
-    part_on a b x y mid x' went one rest = record {
+    part_on : (a b : List (List ℕ × Given)) (m n : List (List ℕ)) (x y : LiveAt) (mid : Intake) (x' : At) (went : Went)
+        → Part a m x y.takes y.sends goes → Part b n y mid x' went → Part (a ++ b) (m ++ n) x mid x' went
+    part_on a b m n x y mid x' went one rest = record {
       takes = lines_on input a b x.takes y.takes mid one.takes rest.takes;
+      give = messages_append a b ∙ ap (λ l. l ++ messages_in b) one.give ∙ ap (λ l. m ++ l) rest.give;
       called = subst (λ n. IsCalled n x.sends x' went) (sym (messages_count a b))
           (called_on opens closes remaining contents leaves is_clean saves fails (length (messages_in a))
           (length (messages_in b)) x.sends y.sends x' went one.called rest.called);
     }
 
-    part_stops : (a : List (List ℕ × Given)) (x : LiveAt) (mid : Intake) (x' : At) (stop : KeptStop)
-        → stop_status stop ≡ 3 → Part a x mid x' goes → Part a x mid x' (stopped stop)
-    part_stops a x mid x' stop three one = record {
+    part_stops : (a : List (List ℕ × Given)) (m : List (List ℕ)) (x : LiveAt) (mid : Intake) (x' : At) (stop : KeptStop)
+        → stop_status stop ≡ 3 → Part a m x mid x' goes → Part a m x mid x' (stopped stop)
+    part_stops a m x mid x' stop three one = record {
       takes = one.takes;
+      give = one.give;
       called = called_stops opens closes remaining contents leaves is_clean saves fails (length (messages_in a)) x.sends
           x' stop three one.called;
     }
 
     pub turn_part : (x x' : LiveAt) (after : After) (went : Went)
-        → Turn opens closes remaining contents leaves is_clean saves fails form input size strict x x' after went
-        → (lines : List (List ℕ × Given)) × (mid : Intake) × Part lines x mid x'.sends went
+        → (turn : Turn opens closes remaining contents leaves is_clean saves fails form input size strict x x' after
+        went)
+        → (lines : List (List ℕ × Given)) × (mid : Intake) × Part lines turn.messages x mid x'.sends went
         × Next lines mid x'.takes after
     turn_part x x' after went turn =
         let (taken, mid, takes, is, few, next) = turn.taken in (
@@ -89,6 +97,7 @@ module _ {C I O K : Type 0} (opens : C → Option (I × O) → C → Type 0) (cl
           mid,
           record {
             takes = takes;
+            give = sym is;
             called = subst (λ ms. IsCalled (length ms) x.sends x'.sends went) is
                 (sends_some opens closes remaining contents leaves is_clean saves fails form turn.messages x.sends
                 x'.sends
@@ -97,52 +106,63 @@ module _ {C I O K : Type 0} (opens : C → Option (I × O) → C → Type 0) (cl
           next,
         )
 
-    goes_on_part : (n : ℕ) (x y : LiveAt)
+    -- the messages of so many turns
+    abbrev gone : (n : ℕ) → (x y : LiveAt)
         → GoesOnFor opens closes remaining contents leaves is_clean saves fails form input size strict n x y
-        → (lines : List (List ℕ × Given)) × Part lines x y.takes y.sends goes × NoneRefused strict lines
+        → List (List ℕ)
+    gone = of_going opens closes remaining contents leaves is_clean saves fails form input size strict
+
+    goes_on_part : (n : ℕ) (x y : LiveAt)
+        → (before : GoesOnFor opens closes remaining contents leaves is_clean saves fails form input size strict n x y)
+        → (lines : List (List ℕ × Given)) × Part lines (gone n x y before) x y.takes y.sends goes
+        × NoneRefused strict lines
     goes_on_part zero x y same =
-        ([], subst (λ (z : LiveAt). Part [] x z.takes z.sends goes) (sym same) (part_none x), λ is_strict. refl)
+        ([], subst (λ (z : LiveAt). Part [] [] x z.takes z.sends goes) (sym same) (part_none x), λ is_strict. refl)
     goes_on_part (suc n) x z (y, before, turn) =
         let (a, one, none) = goes_on_part n x y before in
         let (b, mid, part, next) = turn_part y z GoesOn goes turn in
         let (same, none_more) = goes_on_after input strict b mid z.takes next in (
           a ++ b,
-          part_on a b x y z.takes z.sends goes one (subst (λ k. Part b y k z.sends goes) (sym same) part),
+          part_on a b (gone n x y before) turn.messages x y z.takes z.sends goes one
+              (subst (λ k. Part b turn.messages y k z.sends goes) (sym same) part),
           none_on strict a b none none_more,
         )
 
-    -- turns up to the last
-    pub record Turned (x x' : LiveAt) (went : Went) : Type 0 where
+    -- turns up to the last, which took these messages
+    pub record Turned (messages : List (List ℕ)) (x x' : LiveAt) (went : Went) : Type 0 where
       pub lines : List (List ℕ × Given)
       pub mid : Intake
-      pub part : Part lines x mid x'.sends went
+      pub part : Part lines messages x mid x'.sends went
       pub passes : Passes strict lines
       pub pauses : Pauses input mid x'.takes
       pub done : goes ≡ went → ComesToEnd input strict lines mid x'.takes
       pub behind : x.unknown ≡ 0 → 1 ≤ x'.unknown → Stands input strict lines mid x'.takes x'.behind
 
-    turns_end : (a b : List (List ℕ × Given)) (x y x' : LiveAt) (mid : Intake) (end : Result (Unit {0}) RunFault)
-        (went : Went) → Part a x y.takes y.sends goes → Part b y mid x'.sends goes → Next b mid x'.takes (Ends end)
-        → went ≡ ended_as end → NoneRefused strict a → (x.unknown ≡ 0 → x'.unknown ≡ 0) → Turned x x' went
-    turns_end a b x y x' mid (Ok done) went one part next is before unknown = record {
+    turns_end : (a b : List (List ℕ × Given)) (m n : List (List ℕ)) (x y x' : LiveAt) (mid : Intake)
+        (end : Result (Unit {0}) RunFault) (went : Went)
+        → Part a m x y.takes y.sends goes → Part b n y mid x'.sends goes → Next b mid x'.takes (Ends end)
+        → went ≡ ended_as end → NoneRefused strict a → (x.unknown ≡ 0 → x'.unknown ≡ 0) → Turned (m ++ n) x x' went
+    turns_end a b m n x y x' mid (Ok done) went one part next is before unknown = record {
       lines = a ++ b;
       mid = mid;
-      part = subst (λ w. Part (a ++ b) x mid x'.sends w) (sym is) (part_on a b x y mid x'.sends goes one part);
+      part = subst (λ w. Part (a ++ b) (m ++ n) x mid x'.sends w) (sym is)
+          (part_on a b m n x y mid x'.sends goes one part);
       passes = passes_on strict a b before (passes_after input strict b mid x'.takes (Ends (Ok done)) next);
       pauses = pauses_after input strict b mid x'.takes (Ends (Ok done)) next;
       done = λ on. ends_on input strict a b mid x'.takes before (comes_to_end input strict b mid x'.takes done next);
       behind = λ zero_was some. absurd (let zero_is = unknown zero_was in omega (arith, zero_is, some));
     }
-    turns_end a b x y x' mid (Err fault) went one part (inl never) is before unknown = absurd never
-    turns_end a b x y x' mid (Err fault) went one part (inr (other, same, why, passed)) is before unknown =
+    turns_end a b m n x y x' mid (Err fault) went one part (inl never) is before unknown = absurd never
+    turns_end a b m n x y x' mid (Err fault) went one part (inr (other, same, why, passed)) is before unknown =
         let fault_is : other ≡ fault = sym (same_fault fault other same) in
         let three : stop_status (Run fault) ≡ 3 = subst (λ f. stop_status (Run f) ≡ 3) fault_is
         (taking_status input mid x'.takes other why) in
         record {
           lines = a ++ b;
           mid = mid;
-          part = subst (λ w. Part (a ++ b) x mid x'.sends w) (sym is)
-              (part_stops (a ++ b) x mid x'.sends (Run fault) three (part_on a b x y mid x'.sends goes one part));
+          part = subst (λ w. Part (a ++ b) (m ++ n) x mid x'.sends w) (sym is)
+              (part_stops (a ++ b) (m ++ n) x mid x'.sends (Run fault) three
+              (part_on a b m n x y mid x'.sends goes one part));
           passes = passes_on strict a b before (inl passed);
           pauses = inr (inr (other, why));
           done = λ on. absurd (goes_not_stopped (Run fault) (on ∙ is));
@@ -150,12 +170,14 @@ module _ {C I O K : Type 0} (opens : C → Option (I × O) → C → Type 0) (cl
         }
 
     pub turned : (x x' : LiveAt) (went : Went)
-        → RunsTurns opens closes remaining contents leaves is_clean saves fails form input size strict x x' went
-        → Turned x x' went
+        → (turns : RunsTurns opens closes remaining contents leaves is_clean saves fails form input size strict x x'
+        went)
+        → Turned (of_turns opens closes remaining contents leaves is_clean saves fails form input size strict x x' went
+        turns) x x' went
     turned x x' went (n, y, before, inl (inl (end, turn, is))) =
         let (a, one, none) = goes_on_part n x y before in
         let (b, mid, part, next) = turn_part y x' (Ends end) goes turn in
-        turns_end a b x y x' mid end went one part next is none
+        turns_end a b (gone n x y before) turn.messages x y x' mid end went one part next is none
         (λ zero_was. turn_unknown opens closes remaining contents leaves is_clean saves fails form input size strict y
         x'
         (Ends end) (going_unknown opens closes remaining contents leaves is_clean saves fails form input size strict n
@@ -167,8 +189,8 @@ module _ {C I O K : Type 0} (opens : C → Option (I × O) → C → Type 0) (cl
         record {
           lines = a ++ b;
           mid = mid;
-          part = subst (λ w. Part (a ++ b) x mid x'.sends w) (sym is)
-              (part_on a b x y mid x'.sends (stopped stop) one part);
+          part = subst (λ w. Part (a ++ b) (gone n x y before ++ turn.messages) x mid x'.sends w) (sym is)
+              (part_on a b (gone n x y before) turn.messages x y mid x'.sends (stopped stop) one part);
           passes = passes_on strict a b none (passes_after input strict b mid x'.takes after next);
           pauses = pauses_after input strict b mid x'.takes after next;
           done = λ on. absurd (goes_not_stopped stop (on ∙ is));
@@ -181,9 +203,9 @@ module _ {C I O K : Type 0} (opens : C → Option (I × O) → C → Type 0) (cl
         record {
           lines = a;
           mid = y.takes;
-          part = subst (λ w. Part a x y.takes x'.sends w) (sym is)
-              (subst (λ (z : LiveAt). Part a x y.takes z.sends (stopped (Run run.Reading))) (sym same)
-              (part_stops a x y.takes y.sends (Run run.Reading) refl one));
+          part = subst (λ w. Part a (gone n x y before) x y.takes x'.sends w) (sym is)
+              (subst (λ (z : LiveAt). Part a (gone n x y before) x y.takes z.sends (stopped (Run run.Reading)))
+              (sym same) (part_stops a (gone n x y before) x y.takes y.sends (Run run.Reading) refl one));
           passes = inl none;
           pauses = inl (ap (λ (z : LiveAt). z.takes) same);
           done = λ on. absurd (goes_not_stopped (Run run.Reading) (on ∙ is));

@@ -1,7 +1,7 @@
 -- What a crash leaves of senders that run one after another, and of a whole run.
 use Rattle.std.proofs.Common.{arith, ◌≡◌, ◌⊎◌, ℕ, zero, suc, ◌+◌, ◌-◌, ◌≤◌, Bool, true, false, ◌||◌, not, List, []}
 use Rattle.std.proofs.Common.{◌++◌}
-use Rattle.std.proofs.Common.{length, Option, Ok, Err, refl, sym, ap, subst, ◌∙◌, inl, inr}
+use Rattle.std.proofs.Common.{length, Option, Ok, Err, refl, sym, ap, subst, ◌∙◌, inl, inr, append-nil}
 use Rattle.std.specs.Prelude.{Result}
 use Rattle.uecp_text.specs.declared.run_fault.RunFault.{RunFault}
 use Rattle.uecp_link.specs.Server.{ServerState, idle_at, waiting}
@@ -25,7 +25,9 @@ use Rattle.sending.specs.Run.{Renews, ended_as}
 use Rattle.promises.proofs.OverLines.{Live, RunsOne, RunsAgain, RunsFor, LivesFrom}
 use Rattle.promises.specs.Taken.{Pauses, ComesToEnd, Passes}
 use Rattle.promises.specs.Left.{new_kept, OutlivesLive}
-use Rattle.promises.proofs.LiveLines.{messages_count, lines_on, ends_on, passes_on, Stands, stands_on, stands_pausing}
+use Rattle.promises.proofs.LiveLines.{messages_append, messages_count, lines_on, ends_on, passes_on, Stands}
+use Rattle.promises.proofs.LiveLines.{stands_on, stands_pausing}
+use Rattle.promises.proofs.RunMessages.{of_run, of_one, of_again, of_senders}
 use Rattle.promises.proofs.Statuses.{not_so, telling_status, taking_status}
 use Rattle.promises.proofs.Begun.{begun_so, has_begun}
 use Rattle.promises.proofs.Senders.{Left, ran, ran_out}
@@ -211,11 +213,12 @@ module _ {C I O K : Type 0} (opens : C → Option (I × O) → C → Type 0) (cl
 
     -- ---- One sender after another.
 
-    -- one sender, with a server that stands so
-    record One (by : Bool) (x x' : LiveWas) (went : Went) : Type 0 where
+    -- one sender, with a server that stands so, whose lines gave these messages
+    record One (by : Bool) (messages : List (List ℕ)) (x x' : LiveWas) (went : Went) : Type 0 where
       pub lines : List (List ℕ × Given)
       pub mid : Intake
       pub takes : TakesLines options.reading.input lines x.takes mid
+      pub give : messages_in lines ≡ messages
       pub passes : Passes options.reading.strict lines
       pub pauses : Pauses options.reading.input mid x'.takes
       pub done : goes ≡ went → ComesToEnd options.reading.input options.reading.strict lines mid x'.takes
@@ -231,14 +234,17 @@ module _ {C I O K : Type 0} (opens : C → Option (I × O) → C → Type 0) (cl
       pub status : (stop : KeptStop) → went ≡ stopped stop → stop_status stop ≡ 3
 
     one_so : (by : Bool) (c c' : C) (x x' : LiveWas) (went : Went) → x.behind ≡ GoesOn
-        → RunsOne opens closes remaining contents leaves is_clean saves fails options by c c' x x' went
-        → One by x x' went
+        → (runs : RunsOne opens closes remaining contents leaves is_clean saves fails options by c c' x x' went)
+        → One by (of_one opens closes remaining contents leaves is_clean saves fails options by c c' x x' went runs) x
+        x' went
     one_so by c c' x x' went on (loan, z, runs, finishes, is) =
         let r = ran opens closes remaining contents leaves is_clean saves fails options by _ z went on runs in
-        subst (λ (y : LiveWas). One by x y went) (sym is) (record {
+        subst (λ (y : LiveWas). One by (of_run opens closes remaining contents leaves is_clean saves fails options by _
+        z went runs) x y went) (sym is) (record {
           lines = r.lines;
           mid = r.mid;
           takes = r.takes;
+          give = r.give;
           passes = r.passes;
           pauses = r.pauses;
           done = r.done;
@@ -252,9 +258,11 @@ module _ {C I O K : Type 0} (opens : C → Option (I × O) → C → Type 0) (cl
           status = r.status;
         })
 
-    -- one sender, where the end of the run was found before
-    record Out (by : Bool) (x x' : LiveWas) (end : Result (Unit {0}) RunFault) (went : Went) : Type 0 where
+    -- one sender, where the end of the run was found before, so that there are no messages
+    record Out (by : Bool) (messages : List (List ℕ)) (x x' : LiveWas) (end : Result (Unit {0}) RunFault) (went : Went)
+        : Type 0 where
       pub takes : x'.takes ≡ x.takes
+      pub give : [] ≡ messages
       pub none : x'.unknown ≡ x.unknown
       pub done : goes ≡ went → goes ≡ ended_as end
       pub clean : is_clean x'.sends.keeper → is_clean x.sends.keeper
@@ -269,13 +277,16 @@ module _ {C I O K : Type 0} (opens : C → Option (I × O) → C → Type 0) (cl
 
     out_so : (by : Bool) (c c' : C) (x x' : LiveWas) (end : Result (Unit {0}) RunFault) (went : Went)
         → x.behind ≡ Ends end
-        → RunsOne opens closes remaining contents leaves is_clean saves fails options by c c' x x' went
-        → Out by x x' end went
+        → (runs : RunsOne opens closes remaining contents leaves is_clean saves fails options by c c' x x' went)
+        → Out by (of_one opens closes remaining contents leaves is_clean saves fails options by c c' x x' went runs) x
+        x' end went
     out_so by c c' x x' end went is_end (loan, z, runs, finishes, is) =
         let r = ran_out opens closes remaining contents leaves is_clean saves fails options by _ z end went is_end runs
         in
-        subst (λ (y : LiveWas). Out by x y end went) (sym is) (record {
+        subst (λ (y : LiveWas). Out by (of_run opens closes remaining contents leaves is_clean saves fails options by _
+        z went runs) x y end went) (sym is) (record {
           takes = r.takes;
+          give = r.give;
           none = r.none;
           done = r.done;
           clean = r.clean;
@@ -287,11 +298,12 @@ module _ {C I O K : Type 0} (opens : C → Option (I × O) → C → Type 0) (cl
           status = r.status;
         })
 
-    -- so many senders more
-    pub record Senders (again : ℕ) (x x' : LiveWas) (went : Went) : Type 0 where
+    -- so many senders more, whose lines gave these messages
+    pub record Senders (again : ℕ) (messages : List (List ℕ)) (x x' : LiveWas) (went : Went) : Type 0 where
       pub lines : List (List ℕ × Given)
       pub mid : Intake
       pub takes : TakesLines options.reading.input lines x.takes mid
+      pub give : messages_in lines ≡ messages
       pub once : options.rejoin ≡ false → again ≡ 0
       pub passes : Passes options.reading.strict lines
       pub pauses : Pauses options.reading.input mid x'.takes
@@ -325,13 +337,15 @@ module _ {C I O K : Type 0} (opens : C → Option (I × O) → C → Type 0) (cl
 
     first_sender : (c c' : C) (x x' : LiveWas) (went : Went) → HasBegun leaves is_clean saves fails due x0 x.sends
         → x.unknown ≡ 0 → x.behind ≡ GoesOn
-        → RunsOne opens closes remaining contents leaves is_clean saves fails options due c c' x x' went
-        → Senders 0 x x' went
+        → (runs : RunsOne opens closes remaining contents leaves is_clean saves fails options due c c' x x' went)
+        → Senders 0
+        (of_one opens closes remaining contents leaves is_clean saves fails options due c c' x x' went runs) x x' went
     first_sender c c' x x' went has none on runs =
         let r = one_so due c c' x x' went on runs in record {
           lines = r.lines;
           mid = r.mid;
           takes = r.takes;
+          give = r.give;
           once = λ never. refl;
           passes = r.passes;
           pauses = r.pauses;
@@ -386,13 +400,18 @@ module _ {C I O K : Type 0} (opens : C → Option (I × O) → C → Type 0) (cl
     end_status lines mid end (Err fault) stands stop is =
         same_status stop (Run fault) (taking_status options.reading.input mid end fault stands) (sym is)
 
-    next_by : (n : ℕ) (address : ℕ) (d c' : C) (x y x' : LiveWas) (w : Was) (stopped_so went : Went)
-        → address ≡ x0.runs.address → options.rejoin ≡ true → 1 ≤ y.unknown → Senders n x y stopped_so
+    next_by : (n : ℕ) (messages : List (List ℕ)) (address : ℕ) (d c' : C) (x y x' : LiveWas) (w : Was)
+        (stopped_so went : Went)
+        → address ≡ x0.runs.address → options.rejoin ≡ true → 1 ≤ y.unknown → Senders n messages x y stopped_so
         → w.runs ≡ idle_at address
         → Renews leaves is_clean saves fails options.form y.unknown y.sends w goes
-        → RunsOne opens closes remaining contents leaves is_clean saves fails options true d c' (anew_at y w) x' went
-        → (behind : After) → y.behind ≡ behind → Senders (suc n) x x' went
-    next_by n address d c' x y x' w stopped_so went at rejoin some before new renews runs GoesOn is_on =
+        → (runs : RunsOne opens closes remaining contents leaves is_clean saves fails options true d c' (anew_at y w) x'
+        went)
+        → (behind : After) → y.behind ≡ behind
+        → Senders (suc n)
+        (messages ++ of_one opens closes remaining contents leaves is_clean saves fails options true d c' (anew_at y w)
+        x' went runs) x x' went
+    next_by n messages address d c' x y x' w stopped_so went at rejoin some before new renews runs GoesOn is_on =
         let r = one_so true d c' (anew_at y w) x' went is_on runs in
         let earlier = length (messages_in before.lines) in
         let most = length (messages_in r.lines) in
@@ -408,6 +427,8 @@ module _ {C I O K : Type 0} (opens : C → Option (I × O) → C → Type 0) (cl
           mid = r.mid;
           takes = lines_on options.reading.input before.lines r.lines x.takes before.mid r.mid before.takes
               (subst (λ i. TakesLines options.reading.input r.lines i r.mid) there r.takes);
+          give = messages_append before.lines r.lines ∙ ap (λ l. l ++ messages_in r.lines) before.give
+              ∙ ap (λ l. messages ++ l) r.give;
           once = not_once n rejoin;
           passes = passes_on options.reading.strict before.lines r.lines none r.passes;
           pauses = r.pauses;
@@ -428,7 +449,7 @@ module _ {C I O K : Type 0} (opens : C → Option (I × O) → C → Type 0) (cl
               (ap (λ (p : Progress). p.joined) renews.progress) most loan c left out));
           status = r.status;
         }
-    next_by n address d c' x y x' w stopped_so went at rejoin some before new renews runs (Ends end) is_end =
+    next_by n messages address d c' x y x' w stopped_so went at rejoin some before new renews runs (Ends end) is_end =
         let r = out_so true d c' (anew_at y w) x' end went is_end runs in
         let earlier = length (messages_in before.lines) in
         let now : w.progress.taken ≡ x0.progress.taken + earlier =
@@ -443,6 +464,7 @@ module _ {C I O K : Type 0} (opens : C → Option (I × O) → C → Type 0) (cl
           lines = before.lines;
           mid = before.mid;
           takes = before.takes;
+          give = before.give ∙ sym (append-nil messages) ∙ ap (λ l. messages ++ l) r.give;
           once = not_once n rejoin;
           passes = before.passes;
           pauses = stands_pausing options.reading.input options.reading.strict before.lines before.mid x'.takes
@@ -463,21 +485,25 @@ module _ {C I O K : Type 0} (opens : C → Option (I × O) → C → Type 0) (cl
           status = r.status (end_status before.lines before.mid x'.takes end stands);
         }
 
-    next_sender : (n : ℕ) (address : ℕ) (d c' : C) (x y x' : LiveWas) (stopped_so went : Went)
-        → address ≡ x0.runs.address → options.rejoin ≡ true → 1 ≤ y.unknown → Senders n x y stopped_so
-        → RunsAgain opens closes remaining contents leaves is_clean saves fails options address d c' y x' went
-        → Senders (suc n) x x' went
-    next_sender n address d c' x y x' stopped_so went at rejoin some before (w, new, inl (renews, runs)) =
-        next_by n address d c' x y x' w stopped_so went at rejoin some before new renews runs y.behind refl
-    next_sender n address d c' x y x' stopped_so went at rejoin some before
+    next_sender : (n : ℕ) (messages : List (List ℕ)) (address : ℕ) (d c' : C) (x y x' : LiveWas)
+        (stopped_so went : Went)
+        → address ≡ x0.runs.address → options.rejoin ≡ true → 1 ≤ y.unknown → Senders n messages x y stopped_so
+        → (runs : RunsAgain opens closes remaining contents leaves is_clean saves fails options address d c' y x' went)
+        → Senders (suc n)
+        (messages ++ of_again opens closes remaining contents leaves is_clean saves fails options address d c' y x' went
+        runs) x x' went
+    next_sender n messages address d c' x y x' stopped_so went at rejoin some before (w, new, inl (renews, runs)) =
+        next_by n messages address d c' x y x' w stopped_so went at rejoin some before new renews runs y.behind refl
+    next_sender n messages address d c' x y x' stopped_so went at rejoin some before
         (w, new, inr (stop, renews, is, connect, same)) =
         let earlier = length (messages_in before.lines) in
         let now : w.progress.taken ≡ x0.progress.taken + earlier =
         ap (λ (p : Progress). p.taken) renews.progress ∙ before.counted in
-        subst (λ (v : LiveWas). Senders (suc n) x v went) (sym same) (record {
+        subst (λ (v : LiveWas). Senders (suc n) (messages ++ []) x v went) (sym same) (record {
           lines = before.lines;
           mid = before.mid;
           takes = before.takes;
+          give = before.give ∙ sym (append-nil messages);
           once = not_once n rejoin;
           passes = before.passes;
           pauses = before.pauses;
@@ -512,11 +538,13 @@ module _ {C I O K : Type 0} (opens : C → Option (I × O) → C → Type 0) (cl
 
     pub senders : (n : ℕ) (c c' : C) (x x' : LiveWas) (went : Went)
         → HasBegun leaves is_clean saves fails due x0 x.sends → x.unknown ≡ 0 → x.behind ≡ GoesOn
-        → RunsFor opens closes remaining contents leaves is_clean saves fails options due n c c' x x' went
-        → Senders n x x' went
+        → (runs : RunsFor opens closes remaining contents leaves is_clean saves fails options due n c c' x x' went)
+        → Senders n
+        (of_senders opens closes remaining contents leaves is_clean saves fails options due n c c' x x' went runs) x x'
+        went
     senders zero c c' x x' went has none on runs = first_sender c c' x x' went has none on runs
     senders (suc n) c c' x x' went has none on (d, y, stopped_so, before, rejoin, some, next) =
-        next_sender n x.sends.runs.address d c' x y x' stopped_so went (same_address due x.sends has) rejoin some
+        next_sender n _ x.sends.runs.address d c' x y x' stopped_so went (same_address due x.sends has) rejoin some
         (senders n c d x y stopped_so has none on before) next
 
   -- ---- A whole run.

@@ -225,7 +225,7 @@ module _ {D C I O K : Type 0} (unread : D → Option (List ℕ))
     pub again : ℕ
     pub count : length codes ≡ length (messages_in lines)
     pub once : options.rejoin ≡ false → again ≡ 0
-    pub tells : TellsAll options before s again codes text
+    pub tells : TellsAll options before s again (messages_in lines) codes text
     pub appended : Appends held held' text
     pub status_is : IsStatusOf lines codes status
 

@@ -10,6 +10,7 @@ use Rattle.kept_jobs.specs.Stops.{Went, stop_status}
 use Rattle.kept_jobs.specs.ServerRun.{Standing}
 use Rattle.kept_jobs.proofs.Public.{goes, stopped, goes_not_stopped, Chain, chain_none}
 use Rattle.line_batches.specs.declared.intake.Given.{Given}
+use Rattle.line_batches.specs.declared.taking.After.{After}
 use Rattle.line_batches.specs.declared.taking.After.TheVariants.{GoesOn, Ends}
 use Rattle.line_batches.specs.Intake.{Intake, TakesLines, messages_in}
 use Rattle.sending.specs.declared.options.LiveOptions.{LiveOptions}
@@ -17,6 +18,7 @@ use Rattle.sending.specs.Run.{MakesOnce, ended_as, run_of}
 use Rattle.promises.proofs.OverLines.{Live, RunsOn, RunsLive}
 use Rattle.promises.specs.Taken.{Pauses, ComesToEnd, Passes}
 use Rattle.promises.proofs.LiveLines.{Stands}
+use Rattle.promises.proofs.RunMessages.{of_run_on, of_run}
 use Rattle.promises.proofs.Unknown.{none_unsettled}
 use Rattle.promises.proofs.LiveMaking.{makes_idle}
 use Rattle.promises.proofs.Calls.{Called, called_on, settles_call, settles_idle}
@@ -58,10 +60,12 @@ module _ {C I O K : Type 0} (opens : C → Option (I × O) → C → Type 0) (cl
       (left ≡ kept_at x) ⊎ ((first : KeptServer) × FirstOf due x first
       × Chain opens closes remaining contents leaves is_clean saves fails most first left)
 
-  pub record Ran (due : Bool) (x x' : LiveAt) (went : Went) : Type 0 where
+  -- what it took, which gave these messages, and what a crash leaves of it
+  pub record Ran (due : Bool) (messages : List (List ℕ)) (x x' : LiveAt) (went : Went) : Type 0 where
     pub lines : List (List ℕ × Given)
     pub mid : Intake
     pub takes : TakesLines options.reading.input lines x.takes mid
+    pub give : messages_in lines ≡ messages
     pub passes : Passes options.reading.strict lines
     pub pauses : Pauses options.reading.input mid x'.takes
     pub done : goes ≡ went → ComesToEnd options.reading.input options.reading.strict lines mid x'.takes
@@ -78,18 +82,19 @@ module _ {C I O K : Type 0} (opens : C → Option (I × O) → C → Type 0) (cl
 
   -- it could send, and then these calls were made
   ran_so : (due : Bool) (x : LiveAt) (y : At) (x' : LiveAt) (went : Went) (lines : List (List ℕ × Given))
-      (mid : Intake)
+      (messages : List (List ℕ)) (mid : Intake) → messages_in lines ≡ messages
       → IsMaking due x.sends y goes → IsCalled (length (messages_in lines)) y x'.sends went
       → TakesLines options.reading.input lines x.takes mid → Passes options.reading.strict lines
       → Pauses options.reading.input mid x'.takes
       → (goes ≡ went → ComesToEnd options.reading.input options.reading.strict lines mid x'.takes)
       → (x.unknown ≡ 0 → 1 ≤ x'.unknown
       → Stands options.reading.input options.reading.strict lines mid x'.takes x'.behind)
-      → (goes ≡ went → x'.sends.runs.sender.server.held ≡ []) → Ran due x x' went
-  ran_so due x y x' went lines mid made called takes passes pauses done behind idle = record {
+      → (goes ≡ went → x'.sends.runs.sender.server.held ≡ []) → Ran due messages x x' went
+  ran_so due x y x' went lines messages mid give made called takes passes pauses done behind idle = record {
     lines = lines;
     mid = mid;
     takes = takes;
+    give = give;
     passes = passes;
     pauses = pauses;
     done = done;
@@ -112,7 +117,9 @@ module _ {C I O K : Type 0} (opens : C → Option (I × O) → C → Type 0) (cl
   -- one that goes on once its encoder is joined
   ran_on : (due : Bool) (x y x' : LiveAt) (went : Went) → x.behind ≡ GoesOn
       → MakesOnce opens closes remaining contents leaves is_clean saves fails (run_of options) due x y goes
-      → RunsOn opens closes remaining contents leaves is_clean saves fails options GoesOn y x' went → Ran due x x' went
+      → (runs : RunsOn opens closes remaining contents leaves is_clean saves fails options GoesOn y x' went)
+      → Ran due (of_run_on opens closes remaining contents leaves is_clean saves fails options GoesOn y x' went runs)
+      x x' went
   ran_on due x y x' went on (made, takes, unknown, keeps) (inl (z, (settles, takes_on, stays), turns)) =
       let t = turned opens closes remaining contents leaves is_clean saves fails options.form options.reading.input
       options.reading.size options.reading.strict z x' went turns in
@@ -120,7 +127,7 @@ module _ {C I O K : Type 0} (opens : C → Option (I × O) → C → Type 0) (cl
       y.applied z.applied y.unknown z.unknown goes settles in
       let idle = settles_idle opens closes remaining contents leaves is_clean saves fails options.form y.sends z.sends
       y.applied z.applied y.unknown z.unknown goes settles refl in
-      ran_so due x y.sends x' went t.lines t.mid
+      ran_so due x y.sends x' went t.lines _ t.mid t.part.give
       (making_if opens closes remaining contents leaves is_clean saves fails options.form options.reading.size
       options.station.now due x.sends y.sends x.applied y.applied goes made)
       (subst (λ n. IsCalled n y.sends x'.sends went) (none_before (length (messages_in t.lines)))
@@ -134,7 +141,7 @@ module _ {C I O K : Type 0} (opens : C → Option (I × O) → C → Type 0) (cl
   ran_on due x y x' went on (made, takes, unknown, keeps) (inr (stop, (settles, takes_on, stays), is)) =
       let call = settles_call opens closes remaining contents leaves is_clean saves fails options.form y.sends x'.sends
       y.applied x'.applied y.unknown x'.unknown (stopped stop) settles in
-      ran_so due x y.sends x' went [] x.takes
+      ran_so due x y.sends x' went [] [] x.takes refl
       (making_if opens closes remaining contents leaves is_clean saves fails options.form options.reading.size
       options.station.now due x.sends y.sends x.applied y.applied goes made)
       (subst (λ w. IsCalled 0 y.sends x'.sends w) (sym is) call) refl (inl (λ is_strict. refl)) (inl (takes_on ∙ takes))
@@ -149,12 +156,22 @@ module _ {C I O K : Type 0} (opens : C → Option (I × O) → C → Type 0) (cl
   left_making due x left (inr first) =
       inr (left, first, chain_none opens closes remaining contents leaves is_clean saves fails left)
 
+  -- so, by what comes behind what was outstanding
+  ran_by : (due : Bool) (x y x' : LiveAt) (went : Went) → x.behind ≡ GoesOn
+      → MakesOnce opens closes remaining contents leaves is_clean saves fails (run_of options) due x y goes
+      → (behind : After) → behind ≡ GoesOn
+      → (runs : RunsOn opens closes remaining contents leaves is_clean saves fails options behind y x' went)
+      → Ran due (of_run_on opens closes remaining contents leaves is_clean saves fails options behind y x' went runs)
+      x x' went
+  ran_by due x y x' went on makes GoesOn is runs = ran_on due x y x' went on makes runs
+  ran_by due x y x' went on makes (Ends end) is runs = absurd (let no : Ends end ≡ GoesOn = is in cc)
+
   pub ran : (due : Bool) (x x' : LiveAt) (went : Went) → x.behind ≡ GoesOn
-      → RunsLive opens closes remaining contents leaves is_clean saves fails options due x x' went → Ran due x x' went
+      → (runs : RunsLive opens closes remaining contents leaves is_clean saves fails options due x x' went)
+      → Ran due (of_run opens closes remaining contents leaves is_clean saves fails options due x x' went runs) x x'
+      went
   ran due x x' went is_on (inl (y, (made, takes, unknown, keeps), on)) =
-      ran_on due x y x' went is_on (made, takes, unknown, keeps)
-      (subst (λ b. RunsOn opens closes remaining contents leaves is_clean saves fails options b y x' went)
-      (keeps ∙ is_on) on)
+      ran_by due x y x' went is_on (made, takes, unknown, keeps) y.behind (keeps ∙ is_on) on
   ran due x x' went is_on (inr (stop, (made, takes, unknown, keeps), is)) =
       let m = making_if opens closes remaining contents leaves is_clean saves fails options.form options.reading.size
       options.station.now due x.sends x'.sends x.applied x'.applied (stopped stop) made in
@@ -162,6 +179,7 @@ module _ {C I O K : Type 0} (opens : C → Option (I × O) → C → Type 0) (cl
         lines = [];
         mid = x.takes;
         takes = refl;
+        give = refl;
         passes = inl (λ is_strict. refl);
         pauses = inl takes;
         done = λ on. absurd (goes_not_stopped stop (on ∙ is));
@@ -176,9 +194,11 @@ module _ {C I O K : Type 0} (opens : C → Option (I × O) → C → Type 0) (cl
         status = λ other stops. m.status other (sym is ∙ stops);
       }
 
-  -- what a crash leaves of a sender that takes no line: the end of the run was found before
-  pub record RanOut (due : Bool) (x x' : LiveAt) (end : Result (Unit {0}) RunFault) (went : Went) : Type 0 where
+  -- What a crash leaves of a sender that takes no line, and so no message: the end of the run was found before.
+  pub record RanOut (due : Bool) (messages : List (List ℕ)) (x x' : LiveAt) (end : Result (Unit {0}) RunFault)
+      (went : Went) : Type 0 where
     pub takes : x'.takes ≡ x.takes
+    pub give : [] ≡ messages
     pub none : x'.unknown ≡ x.unknown
     pub done : goes ≡ went → goes ≡ ended_as end
     pub clean : is_clean x'.sends.keeper → is_clean x.sends.keeper
@@ -194,13 +214,14 @@ module _ {C I O K : Type 0} (opens : C → Option (I × O) → C → Type 0) (cl
   ran_out_on : (due : Bool) (x y x' : LiveAt) (end : Result (Unit {0}) RunFault) (went : Went)
       → MakesOnce opens closes remaining contents leaves is_clean saves fails (run_of options) due x y goes
       → RunsOn opens closes remaining contents leaves is_clean saves fails options (Ends end) y x' went
-      → RanOut due x x' end went
+      → RanOut due [] x x' end went
   ran_out_on due x y x' end went (made, takes, unknown, keeps) (same, is) =
       let m = making_if opens closes remaining contents leaves is_clean saves fails options.form options.reading.size
       options.station.now due x.sends y.sends x.applied y.applied goes made in
       let sends : x'.sends ≡ y.sends = ap (λ (v : LiveAt). v.sends) same in
       record {
         takes = ap (λ (v : LiveAt). v.takes) same ∙ takes;
+        give = refl;
         none = ap (λ (v : LiveAt). v.unknown) same ∙ unknown;
         done = λ on. on ∙ is;
         clean = λ clean. m.clean (subst (λ (v : At). is_clean v.keeper) sends clean);
@@ -217,18 +238,31 @@ module _ {C I O K : Type 0} (opens : C → Option (I × O) → C → Type 0) (cl
         status = λ ends stop stops. ends stop (sym is ∙ stops);
       }
 
+  -- so, by what comes behind what was outstanding
+  ran_out_by : (due : Bool) (x y x' : LiveAt) (end : Result (Unit {0}) RunFault) (went : Went)
+      → MakesOnce opens closes remaining contents leaves is_clean saves fails (run_of options) due x y goes
+      → (behind : After) → behind ≡ Ends end
+      → (runs : RunsOn opens closes remaining contents leaves is_clean saves fails options behind y x' went)
+      → RanOut due
+      (of_run_on opens closes remaining contents leaves is_clean saves fails options behind y x' went runs) x x' end
+      went
+  ran_out_by due x y x' end went makes GoesOn is runs = absurd (let no : GoesOn ≡ Ends end = is in cc)
+  ran_out_by due x y x' end went makes (Ends other) is runs =
+      let same : other ≡ end = (let outer : Ends other ≡ Ends end = is in cc) in
+      subst (λ e. RanOut due [] x x' e went) same (ran_out_on due x y x' other went makes runs)
+
   pub ran_out : (due : Bool) (x x' : LiveAt) (end : Result (Unit {0}) RunFault) (went : Went) → x.behind ≡ Ends end
-      → RunsLive opens closes remaining contents leaves is_clean saves fails options due x x' went
-      → RanOut due x x' end went
+      → (runs : RunsLive opens closes remaining contents leaves is_clean saves fails options due x x' went)
+      → RanOut due (of_run opens closes remaining contents leaves is_clean saves fails options due x x' went runs) x x'
+      end went
   ran_out due x x' end went is_end (inl (y, (made, takes, unknown, keeps), on)) =
-      ran_out_on due x y x' end went (made, takes, unknown, keeps)
-      (subst (λ b. RunsOn opens closes remaining contents leaves is_clean saves fails options b y x' went)
-      (keeps ∙ is_end) on)
+      ran_out_by due x y x' end went (made, takes, unknown, keeps) y.behind (keeps ∙ is_end) on
   ran_out due x x' end went is_end (inr (stop, (made, takes, unknown, keeps), is)) =
       let m = making_if opens closes remaining contents leaves is_clean saves fails options.form options.reading.size
       options.station.now due x.sends x'.sends x.applied x'.applied (stopped stop) made in
       record {
         takes = takes;
+        give = refl;
         none = unknown;
         done = λ on. absurd (goes_not_stopped stop (on ∙ is));
         clean = m.clean;

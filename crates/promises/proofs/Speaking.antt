@@ -34,6 +34,7 @@ use Rattle.sending.specs.Run.{AnswersTold, SettlesLive, MakesOnce, SettlesOnce, 
 use Rattle.sending.specs.Run.{run_of}
 use Rattle.promises.proofs.OverLines.{Live, RunsLive, RunsOn}
 use Rattle.promises.specs.LiveTold.{AreAnswers}
+use Rattle.promises.proofs.RunMessages.{of_run_on, of_run}
 use Rattle.promises.proofs.LiveAnswering.{replied}
 use Rattle.promises.proofs.Calls.{settles_idle}
 use Rattle.promises.proofs.LiveMaking.{makes_idle}
@@ -284,23 +285,27 @@ module _ {C I O K : Type 0} (opens : C → Option (I × O) → C → Type 0) (cl
           none = are ∙ unknown ∙ none;
         }
 
-    -- what one sender told, and how many messages it took
-    pub record Spoke (by : Bool) (x x' : At) (was is : Bool) (unknown' : ℕ) : Type 0 where
+    -- What one sender told, that took these messages: behind those whose codes it told some are lost; or it took none,
+    -- and what waited is unknown.
+    pub record Spoke (by : Bool) (all : List (List ℕ)) (x x' : At) (was is : Bool) (unknown' : ℕ) : Type 0 where
       pub front : List ℕ
+      pub messages : List (List ℕ)
+      pub lost : List (List ℕ)
       pub codes : List Code
       pub lines : List ℕ
       pub is_front : IsFront by x front
-      pub answers : AreAnswers options.form (x.progress.taken + 1) (replied codes) lines
+      pub are_all : all ≡ messages ++ lost
+      pub answers : AreAnswers options.form (x.progress.taken + 1) messages (replied codes) lines
       pub appended : Appends x.held x'.held (front ++ lines)
-      pub counted : (x'.progress.taken ≡ x.progress.taken + (length codes + unknown'))
+      pub counted : ((x'.progress.taken ≡ x.progress.taken + (length codes + unknown')) × (length lost ≡ unknown'))
           ⊎ ((by ≡ false) × (codes ≡ []) × (x'.progress.taken ≡ x.progress.taken)
-          × (unknown' ≡ length (marks_in x.runs.sender.server)))
+          × (unknown' ≡ length (marks_in x.runs.sender.server)) × (length lost ≡ 0))
       pub applied : is ≡ true → (was ≡ true) × (list_all is_applied codes ≡ true)
 
     stopped_settling : (by : Bool) (x y x' : LiveAt) (stop : KeptStop) → (by ≡ true → IsIdle x.sends) → 1 ≤ x'.unknown
         → MakesOnce opens closes remaining contents leaves is_clean saves fails (run_of options) by x y goes
         → SettlesOnce opens closes remaining contents leaves is_clean saves fails (run_of options) y x' (stopped stop)
-        → Spoke by x.sends x'.sends x.applied x'.applied x'.unknown
+        → Spoke by [] x.sends x'.sends x.applied x'.applied x'.unknown
     stopped_settling false x y x' stop idle many ((same, apply, is), takes, unknown, keeps) (settles, takes_on, stays) =
         let u = unsettled options.form x.sends x'.sends y.applied x'.applied y.unknown x'.unknown stop many
         (subst (λ (v : At). SettlesLive opens closes remaining contents leaves is_clean saves fails
@@ -308,12 +313,15 @@ module _ {C I O K : Type 0} (opens : C → Option (I × O) → C → Type 0) (cl
         x'.sends y.applied
         x'.applied y.unknown x'.unknown (stopped stop)) same settles) in record {
           front = [];
+          messages = [];
+          lost = [];
           codes = [];
           lines = [];
           is_front = inl refl;
+          are_all = refl;
           answers = refl;
           appended = u.appended;
-          counted = inr (refl, refl, u.taken, u.all);
+          counted = inr (refl, refl, u.taken, u.all, refl);
           applied = λ all_so. (
             sym apply ∙ settled_applied options.form y.sends x'.sends y.applied x'.applied y.unknown x'.unknown (stopped
                 stop)
@@ -331,8 +339,11 @@ module _ {C I O K : Type 0} (opens : C → Option (I × O) → C → Type 0) (cl
     spoke_on : (by : Bool) (x y x' : LiveAt) (behind : After) (went : Went) → (by ≡ true → IsIdle x.sends)
         → x.unknown ≡ 0 → MakesOnce opens closes remaining contents leaves is_clean saves fails (run_of options) by x y
         goes
-        → RunsOn opens closes remaining contents leaves is_clean saves fails options behind y x' went
-        → Onward went x'.unknown → Spoke by x.sends x'.sends x.applied x'.applied x'.unknown
+        → (runs : RunsOn opens closes remaining contents leaves is_clean saves fails options behind y x' went)
+        → Onward went x'.unknown
+        → Spoke by
+        (of_run_on opens closes remaining contents leaves is_clean saves fails options behind y x' went runs) x.sends
+        x'.sends x.applied x'.applied x'.unknown
     spoke_on by x y x' GoesOn went idle none made (inl (z, settles, turns)) onward =
         let f = front by x y z idle none made settles in
         let still = settles_idle opens closes remaining contents leaves is_clean saves fails options.form y.sends
@@ -341,12 +352,15 @@ module _ {C I O K : Type 0} (opens : C → Option (I × O) → C → Type 0) (cl
         options.reading.input options.reading.size options.reading.strict z x' went still f.none turns onward in
         let taken = f.taken in record {
           front = f.text;
+          messages = t.messages;
+          lost = t.lost;
           codes = t.codes;
           lines = t.lines;
           is_front = f.is_text;
-          answers = subst (λ n. AreAnswers options.form (n + 1) (replied t.codes) t.lines) taken t.answers;
+          are_all = t.are_all;
+          answers = subst (λ n. AreAnswers options.form (n + 1) t.messages (replied t.codes) t.lines) taken t.answers;
           appended = appends_then x.sends.held z.sends.held x'.sends.held f.text t.lines f.appended t.appended;
-          counted = inl (let a = t.counted in omega (arith, a, taken));
+          counted = inl ((let a = t.counted in omega (arith, a, taken)), t.many);
           applied = λ all_so. (
             made_applied options.form options.reading.size options.station.now by x.sends y.sends x.applied y.applied
                 goes made.0 (settled_applied options.form y.sends z.sends y.applied z.applied y.unknown z.unknown goes
@@ -362,13 +376,19 @@ module _ {C I O K : Type 0} (opens : C → Option (I × O) → C → Type 0) (cl
         let zero_is : x'.unknown ≡ 0 = ap (λ (v : LiveAt). v.unknown) same ∙ made.2 ∙ none in
         record {
           front = j.text;
+          messages = [];
+          lost = [];
           codes = [];
           lines = [];
           is_front = j.is_text;
+          are_all = refl;
           answers = refl;
           appended = subst (λ l. Appends x.sends.held x'.sends.held l) (sym (append-nil j.text))
               (subst (λ (v : At). Appends x.sends.held v.held j.text) (sym sends) j.appended);
-          counted = inl (let a = ap (λ (v : At). v.progress.taken) sends ∙ j.taken in omega (arith, a, zero_is));
+          counted = inl (
+            (let a = ap (λ (v : At). v.progress.taken) sends ∙ j.taken in omega (arith, a, zero_is)),
+            sym zero_is,
+          );
           applied = λ all_so. (
             made_applied options.form options.reading.size options.station.now by x.sends y.sends x.applied y.applied
                 goes made.0 (sym (ap (λ (v : LiveAt). v.applied) same) ∙ all_so),
@@ -377,8 +397,10 @@ module _ {C I O K : Type 0} (opens : C → Option (I × O) → C → Type 0) (cl
         }
 
     pub spoke : (by : Bool) (x x' : LiveAt) (went : Went) → (by ≡ true → IsIdle x.sends) → x.unknown ≡ 0
-        → RunsLive opens closes remaining contents leaves is_clean saves fails options by x x' went
-        → Onward went x'.unknown → Spoke by x.sends x'.sends x.applied x'.applied x'.unknown
+        → (runs : RunsLive opens closes remaining contents leaves is_clean saves fails options by x x' went)
+        → Onward went x'.unknown
+        → Spoke by (of_run opens closes remaining contents leaves is_clean saves fails options by x x' went runs)
+        x.sends x'.sends x.applied x'.applied x'.unknown
     spoke by x x' went idle none (inl (y, made, on)) onward = spoke_on by x y x' y.behind went idle none made on onward
     spoke by x x' went idle none (inr (stop, (made, takes, unknown, keeps), is)) onward =
         absurd (goes_not_stopped stop (goes_with_none went x'.unknown (unknown ∙ none) onward ∙ is))

@@ -25,9 +25,10 @@ use Rattle.promises.specs.Taken.{ComesToEnd}
 use Rattle.promises.specs.LiveTold.{was_applied, AreAnswers, anew_lines, IsToldFirst, IsToldBetween, TellsFor, TellsAll}
 use Rattle.promises.proofs.Begun.{has_begun}
 use Rattle.promises.proofs.LiveAnswering.{replied, replied_count, replied_applied, unknown, unknown_count, unknown_told}
-use Rattle.promises.proofs.LiveAnswering.{tells_more}
+use Rattle.promises.proofs.LiveAnswering.{none_lost, tells_more}
 use Rattle.promises.proofs.LiveTelling.{Onward, told_all, goes_with_none}
 use Rattle.promises.proofs.Speaking.{IsFront, Spoke, spoke, spoke_unknown}
+use Rattle.promises.proofs.RunMessages.{of_run, of_one, of_again, of_senders}
 use Rattle.promises.proofs.Runs.{senders}
 
 module _ {C I O K : Type 0} (opens : C → Option (I × O) → C → Type 0) (closes : C → I → O → C → Type 0)
@@ -66,14 +67,20 @@ module _ {C I O K : Type 0} (opens : C → Option (I × O) → C → Type 0) (cl
     abbrev first : ℕ
     first = x0.progress.taken + 1
 
-    record ToldFor (n : ℕ) (x x' : LiveWas) : Type 0 where
+    -- What senders told that took these messages: a line of each but the last, which are lost; or they took none, and
+    -- what waited is unknown.
+    record ToldFor (n : ℕ) (all : List (List ℕ)) (x x' : LiveWas) : Type 0 where
+      pub messages : List (List ℕ)
+      pub lost : List (List ℕ)
       pub answers : List (Option Code)
       pub text : List ℕ
-      pub tells : TellsFor options x0.progress x0.runs n answers text
+      pub are_all : all ≡ messages ++ lost
+      pub tells : TellsFor options x0.progress x0.runs n messages answers text
       pub appended : Appends x.sends.held x'.sends.held text
-      pub counted : (x'.sends.progress.taken ≡ x0.progress.taken + (length answers + x'.unknown))
+      pub counted : ((x'.sends.progress.taken ≡ x0.progress.taken + (length answers + x'.unknown))
+          × (length lost ≡ x'.unknown))
           ⊎ ((answers ≡ []) × (x'.sends.progress.taken ≡ x0.progress.taken)
-          × (x'.unknown ≡ length (marks_in x0.runs)))
+          × (x'.unknown ≡ length (marks_in x0.runs)) × (length lost ≡ 0))
       pub applied : x'.applied ≡ true → list_all was_applied answers ≡ true
 
     -- ---- The first sender.
@@ -105,41 +112,50 @@ module _ {C I O K : Type 0} (opens : C → Option (I × O) → C → Type 0) (cl
     same_marks true x begun is = absurd (let no : true ≡ false = is in cc)
 
     told_first : (c c' : C) (x x' : LiveWas) (went : Went) → HasBegunSo due x.sends → x.unknown ≡ 0
-        → RunsOne opens closes remaining contents leaves is_clean saves fails options due c c' x x' went
-        → Onward went x'.unknown → ToldFor 0 x x'
+        → (runs : RunsOne opens closes remaining contents leaves is_clean saves fails options due c c' x x' went)
+        → Onward went x'.unknown
+        → ToldFor 0
+        (of_one opens closes remaining contents leaves is_clean saves fails options due c c' x x' went runs) x x'
     told_first c c' x x' went has none (loan, z, runs, finishes, is) onward =
         let s = spoke opens closes remaining contents leaves is_clean saves fails options due
         (sent_from c loan x) z went
         (begun_idle due x.sends has) none runs
         (subst (λ (v : LiveWas). Onward went v.unknown) is onward) in
-        subst (λ (v : LiveWas). ToldFor 0 x v) (sym is) (record {
+        subst (λ (v : LiveWas). ToldFor 0 (of_run opens closes remaining contents leaves is_clean saves fails options
+        due (sent_from c loan x) z went runs) x v) (sym is) (record {
+          messages = s.messages;
+          lost = s.lost;
           answers = replied s.codes;
           text = s.front ++ s.lines;
+          are_all = s.are_all;
           tells = (
             s.front,
             s.lines,
             subst (λ b. IsToldFirst options x0.progress x0.runs b s.front) (sym due_is)
                 (front_first due x.sends has c loan s.front s.is_front),
-            subst (λ n. AreAnswers options.form (n + 1) (replied s.codes) s.lines) (same_taken due x.sends has)
-                s.answers,
+            subst (λ n. AreAnswers options.form (n + 1) s.messages (replied s.codes) s.lines)
+                (same_taken due x.sends has) s.answers,
             refl,
           );
           appended = s.appended;
-          counted = by s.codes (same_taken due x.sends has) s.counted;
+          counted = by s.codes s.lost (same_taken due x.sends has) s.counted;
           applied = λ all_so. replied_applied s.codes ∙ (s.applied all_so).1;
         })
       where
-        by : (codes : List Code) → x.sends.progress.taken ≡ x0.progress.taken
-            → (z.sends.progress.taken ≡ x.sends.progress.taken + (length codes + z.unknown))
+        by : (codes : List Code) (lost : List (List ℕ)) → x.sends.progress.taken ≡ x0.progress.taken
+            → ((z.sends.progress.taken ≡ x.sends.progress.taken + (length codes + z.unknown))
+            × (length lost ≡ z.unknown))
             ⊎ ((due ≡ false) × (codes ≡ [])
             × (z.sends.progress.taken ≡ x.sends.progress.taken)
-            × (z.unknown ≡ length (marks_in x.sends.runs)))
-            → (z.sends.progress.taken ≡ x0.progress.taken + (length (replied codes) + z.unknown))
+            × (z.unknown ≡ length (marks_in x.sends.runs)) × (length lost ≡ 0))
+            → ((z.sends.progress.taken ≡ x0.progress.taken + (length (replied codes) + z.unknown))
+            × (length lost ≡ z.unknown))
             ⊎ ((replied codes ≡ []) × (z.sends.progress.taken ≡ x0.progress.taken)
-            × (z.unknown ≡ length (marks_in x0.runs)))
-        by codes same (inl a) = inl (let number = replied_count codes in omega (arith, a, same, number))
-        by codes same (inr (not_due, none_is, taken, all)) =
-            inr (ap replied none_is, taken ∙ same, all ∙ same_marks due x.sends has not_due)
+            × (z.unknown ≡ length (marks_in x0.runs)) × (length lost ≡ 0))
+        by codes lost same (inl (a, many)) =
+            inl ((let number = replied_count codes in omega (arith, a, same, number)), many)
+        by codes lost same (inr (not_due, none_is, taken, all, none_lost_is)) =
+            inr (ap replied none_is, taken ∙ same, all ∙ same_marks due x.sends has not_due, none_lost_is)
 
     -- ---- The senders after it.
 
@@ -156,26 +172,34 @@ module _ {C I O K : Type 0} (opens : C → Option (I × O) → C → Type 0) (cl
         by (inr (failed, same, is)) = absurd (goes_not_stopped StateFailed is)
 
     -- one sender more, behind what was told before
-    told_more : (n : ℕ) (x y x' : LiveWas) (w : Was) (earlier : List (Option Code)) (before between front : List ℕ)
-        (codes : List Code) (lines : List ℕ) → TellsFor options x0.progress x0.runs n earlier before
+    told_more : (n : ℕ) (a b : List (List ℕ)) (x y x' : LiveWas) (w : Was) (first_ones : List (List ℕ))
+        (earlier : List (Option Code)) (before between front : List ℕ) (messages lost : List (List ℕ))
+        (codes : List Code) (lines : List ℕ) → a ≡ first_ones → b ≡ messages ++ lost → length lost ≡ x'.unknown
+        → TellsFor options x0.progress x0.runs n first_ones earlier before
         → IsToldBetween options x0.progress x0.runs between
         → w.progress.taken ≡ x0.progress.taken + length earlier
         → Appends x.sends.held w.held (before ++ front) → (rest : List ℕ) → between ≡ front ++ rest
-        → AreAnswers options.form (w.progress.taken + 1) (replied codes) lines
+        → AreAnswers options.form (w.progress.taken + 1) messages (replied codes) lines
         → Appends w.held x'.sends.held (rest ++ lines)
         → x'.sends.progress.taken ≡ w.progress.taken + (length codes + x'.unknown) → (x'.applied ≡ true → ⊥)
-        → ToldFor (suc n) x x'
-    told_more n x y x' w earlier before between front codes lines tells is_between taken so_far rest split are then
-        counted never =
+        → ToldFor (suc n) (a ++ b) x x'
+    told_more n a b x y x' w first_ones earlier before between front messages lost codes lines a_is b_is many tells
+        is_between taken so_far rest split are then counted never =
         let place : w.progress.taken + 1 ≡ first + length earlier = omega (arith, taken) in
         let all : (before ++ front) ++ (rest ++ lines) ≡ before ++ (between ++ lines) =
         append_assoc before front (rest ++ lines)
         ∙ ap (λ l. before ++ l) (sym (append_assoc front rest lines))
         ∙ ap (λ l. before ++ (l ++ lines)) (sym split) in
         record {
+          messages = first_ones ++ messages;
+          lost = lost;
           answers = earlier ++ replied codes;
           text = before ++ (between ++ lines);
+          are_all = ap (λ l. l ++ b) a_is ∙ ap (λ l. first_ones ++ l) b_is
+              ∙ sym (append_assoc first_ones messages lost);
           tells = (
+            first_ones,
+            messages,
             earlier,
             replied codes,
             before,
@@ -184,13 +208,17 @@ module _ {C I O K : Type 0} (opens : C → Option (I × O) → C → Type 0) (cl
             tells,
             is_between,
             refl,
-            subst (λ m. AreAnswers options.form m (replied codes) lines) place are,
+            refl,
+            subst (λ m. AreAnswers options.form m messages (replied codes) lines) place are,
             refl,
           );
           appended = subst (λ l. Appends x.sends.held x'.sends.held l) all
               (appends_then x.sends.held w.held x'.sends.held (before ++ front) (rest ++ lines) so_far then);
-          counted = inl (let number = replied_count codes in let sum = length-append earlier (replied codes) in
-              omega (arith, counted, taken, number, sum));
+          counted = inl (
+            (let number = replied_count codes in let sum = length-append earlier (replied codes) in
+                omega (arith, counted, taken, number, sum)),
+            many,
+          );
           applied = λ all_so. absurd (never all_so);
         }
 
@@ -209,56 +237,62 @@ module _ {C I O K : Type 0} (opens : C → Option (I × O) → C → Type 0) (cl
       behind = z.behind;
     }
 
-    abbrev SpokeOf : C → (loan : ℕ) → Was → Live (SenderOver C I O) K → Type 0
-    SpokeOf c loan w z =
-        Spoke opens closes remaining contents leaves is_clean saves fails options true
+    abbrev SpokeOf : C → (loan : ℕ) → Was → List (List ℕ) → Live (SenderOver C I O) K → Type 0
+    SpokeOf c loan w all z =
+        Spoke opens closes remaining contents leaves is_clean saves fails options true all
         (sending opens closes remaining contents leaves is_clean saves fails c loan options.limits w) z.sends false
         z.applied
         z.unknown
 
-    spoke_counted : (c : C) (loan : ℕ) (w : Was) (z : Live (SenderOver C I O) K) (s : SpokeOf c loan w z)
-        → z.sends.progress.taken ≡ w.progress.taken + (length s.codes + z.unknown)
-    spoke_counted c loan w z s = by s.counted
+    spoke_counted : (c : C) (loan : ℕ) (w : Was) (all : List (List ℕ)) (z : Live (SenderOver C I O) K)
+        (s : SpokeOf c loan w all z)
+        → (z.sends.progress.taken ≡ w.progress.taken + (length s.codes + z.unknown)) × (length s.lost ≡ z.unknown)
+    spoke_counted c loan w all z s = by s.counted
       where
-        by : (z.sends.progress.taken ≡ w.progress.taken + (length s.codes + z.unknown))
+        by : ((z.sends.progress.taken ≡ w.progress.taken + (length s.codes + z.unknown)) × (length s.lost ≡ z.unknown))
             ⊎ ((true ≡ false) × (s.codes ≡ []) × (z.sends.progress.taken ≡ w.progress.taken)
-            × (z.unknown ≡ length (marks_in w.runs)))
-            → z.sends.progress.taken ≡ w.progress.taken + (length s.codes + z.unknown)
+            × (z.unknown ≡ length (marks_in w.runs)) × (length s.lost ≡ 0))
+            → (z.sends.progress.taken ≡ w.progress.taken + (length s.codes + z.unknown)) × (length s.lost ≡ z.unknown)
         by (inl a) = a
-        by (inr (is, none_is, taken, all)) = absurd (let never : true ≡ false = is in cc)
+        by (inr (is, none_is, taken, waited, none_lost_is)) = absurd (let never : true ≡ false = is in cc)
 
-    never_applied : (c : C) (loan : ℕ) (w : Was) (z : Live (SenderOver C I O) K) → SpokeOf c loan w z
-        → z.applied ≡ true → ⊥
-    never_applied c loan w z s all_so = absurd (let never : false ≡ true = (s.applied all_so).0 in cc)
+    never_applied : (c : C) (loan : ℕ) (w : Was) (all : List (List ℕ)) (z : Live (SenderOver C I O) K)
+        → SpokeOf c loan w all z → z.applied ≡ true → ⊥
+    never_applied c loan w all z s all_so = absurd (let never : false ≡ true = (s.applied all_so).0 in cc)
 
-    told_again : (n : ℕ) (x y : LiveWas) (w : Was) (c : C) (loan : ℕ) (z : Live (SenderOver C I O) K)
-        (so : ToldFor n x y) → w.progress.taken ≡ y.sends.progress.taken
+    told_again : (n : ℕ) (a b : List (List ℕ)) (x y : LiveWas) (w : Was) (c : C) (loan : ℕ)
+        (z : Live (SenderOver C I O) K) (so : ToldFor n a x y) → w.progress.taken ≡ y.sends.progress.taken
         → Appends y.sends.held w.held (unknown_in options.form (y.sends.progress.taken + 1 - y.unknown) y.unknown)
-        → (s : SpokeOf c loan w z)
-        → (y.sends.progress.taken ≡ x0.progress.taken + (length so.answers + y.unknown))
+        → (s : SpokeOf c loan w b z)
+        → ((y.sends.progress.taken ≡ x0.progress.taken + (length so.answers + y.unknown))
+        × (length so.lost ≡ y.unknown))
         ⊎ ((so.answers ≡ []) × (y.sends.progress.taken ≡ x0.progress.taken)
-        × (y.unknown ≡ length (marks_in x0.runs)))
-        → ToldFor (suc n) x (ended z)
-    told_again n x y w c loan z so same given_up s (inl a) =
+        × (y.unknown ≡ length (marks_in x0.runs)) × (length so.lost ≡ 0))
+        → ToldFor (suc n) (a ++ b) x (ended z)
+    told_again n a b x y w c loan z so same given_up s (inl (count, many)) =
         let gone = unknown y.unknown in
         let number = unknown_count y.unknown in
-        let place : y.sends.progress.taken + 1 - y.unknown ≡ first + length so.answers = omega (arith, a) in
+        let place : y.sends.progress.taken + 1 - y.unknown ≡ first + length so.answers = omega (arith, count) in
         let lines = unknown_in options.form (y.sends.progress.taken + 1 - y.unknown) y.unknown in
         let sum : length (so.answers ++ gone) ≡ length so.answers + length gone = length-append so.answers gone in
-        let are : AreAnswers options.form (first + length so.answers) gone lines =
-        subst (λ m. AreAnswers options.form m gone lines) place
-        (unknown_told options.form (y.sends.progress.taken + 1 - y.unknown) y.unknown) in
-        told_more n x y (ended z) w (so.answers ++ gone) (so.text ++ lines) s.front [] s.codes s.lines
-        (tells_more options x0.progress x0.runs n so.answers gone so.text lines so.tells are)
+        let are : AreAnswers options.form (first + length so.answers) so.lost gone lines =
+        subst (λ m. AreAnswers options.form m so.lost gone lines) place
+        (unknown_told options.form (y.sends.progress.taken + 1 - y.unknown) y.unknown so.lost many) in
+        let spoken = spoke_counted c loan w b z s in
+        told_more n a b x y (ended z) w (so.messages ++ so.lost) (so.answers ++ gone) (so.text ++ lines) s.front []
+        s.messages s.lost s.codes s.lines so.are_all s.are_all spoken.1
+        (tells_more options x0.progress x0.runs n so.messages so.lost so.answers gone so.text lines so.tells are)
         ([], s.is_front.0, inl refl, s.is_front.1)
-        (omega (arith, same, a, number, sum))
+        (omega (arith, same, count, number, sum))
         (subst (λ l. Appends x.sends.held w.held l) (sym (append-nil (so.text ++ lines)))
         (appends_then x.sends.held y.sends.held w.held so.text lines so.appended given_up))
-        s.front refl s.answers s.appended (spoke_counted c loan w z s) (never_applied c loan w z s)
-    told_again n x y w c loan z so same given_up s (inr (none_is, taken, all)) =
+        s.front refl s.answers s.appended spoken.0 (never_applied c loan w b z s)
+    told_again n a b x y w c loan z so same given_up s (inr (none_is, taken, all, none_lost_is)) =
         let waited = unknown_in options.form (y.sends.progress.taken + 1 - y.unknown) y.unknown in
         let zero_is : length so.answers ≡ 0 = ap length none_is in
-        told_more n x y (ended z) w so.answers so.text (waited ++ s.front) waited s.codes s.lines so.tells (
+        let spoken = spoke_counted c loan w b z s in
+        told_more n a b x y (ended z) w so.messages so.answers so.text (waited ++ s.front) waited s.messages s.lost
+        s.codes s.lines (none_lost a so.messages so.lost so.are_all none_lost_is) s.are_all spoken.1 so.tells (
           waited,
           s.is_front.0,
           inr (ap (λ n. unknown_in options.form (n + 1 - y.unknown) y.unknown) taken
@@ -267,17 +301,23 @@ module _ {C I O K : Type 0} (opens : C → Option (I × O) → C → Type 0) (cl
         )
         (omega (arith, same, taken, zero_is))
         (appends_then x.sends.held y.sends.held w.held so.text waited so.appended given_up) s.front refl s.answers
-        s.appended (spoke_counted c loan w z s) (never_applied c loan w z s)
+        s.appended spoken.0 (never_applied c loan w b z s)
 
-    told_next : (n : ℕ) (address : ℕ) (d c' : C) (x y x' : LiveWas) (went : Went) → ToldFor n x y
-        → RunsAgain opens closes remaining contents leaves is_clean saves fails options address d c' y x' went
-        → Onward went x'.unknown → ToldFor (suc n) x x'
-    told_next n address d c' x y x' went so (w, new, inr (stop, renews, is, connect, same)) onward =
+    told_next : (n : ℕ) (a : List (List ℕ)) (address : ℕ) (d c' : C) (x y x' : LiveWas) (went : Went)
+        → ToldFor n a x y
+        → (runs : RunsAgain opens closes remaining contents leaves is_clean saves fails options address d c' y x' went)
+        → Onward went x'.unknown
+        → ToldFor (suc n)
+        (a ++ of_again opens closes remaining contents leaves is_clean saves fails options address d c' y x' went runs)
+        x x'
+    told_next n a address d c' x y x' went so (w, new, inr (stop, renews, is, connect, same)) onward =
         absurd (goes_not_stopped stop
         (goes_with_none went x'.unknown (ap (λ (v : LiveWas). v.unknown) same) onward ∙ is))
-    told_next n address d c' x y x' went so (w, new, inl (renews, (loan, z, runs, finishes, is))) onward =
-        subst (λ (v : LiveWas). ToldFor (suc n) x v) (sym is)
-        (told_again n x y w d loan z so (ap (λ (p : Progress). p.taken) renews.progress)
+    told_next n a address d c' x y x' went so (w, new, inl (renews, (loan, z, runs, finishes, is))) onward =
+        let b = of_run opens closes remaining contents leaves is_clean saves fails options true
+        (sent_from d loan (anew_at y w)) z went runs in
+        subst (λ (v : LiveWas). ToldFor (suc n) (a ++ b) x v) (sym is)
+        (told_again n a b x y w d loan z so (ap (λ (p : Progress). p.taken) renews.progress)
         (renewed_told y.unknown y.sends w renews)
         (spoke opens closes remaining contents leaves is_clean saves fails options true
         (sent_from d loan (anew_at y w)) z went
@@ -285,12 +325,14 @@ module _ {C I O K : Type 0} (opens : C → Option (I × O) → C → Type 0) (cl
         (subst (λ (v : LiveWas). Onward went v.unknown) is onward)) so.counted)
 
     told_senders : (n : ℕ) (c c' : C) (x x' : LiveWas) (went : Went) → HasBegunSo due x.sends → x.unknown ≡ 0
-        → RunsFor opens closes remaining contents leaves is_clean saves fails options due n c c' x x' went
-        → Onward went x'.unknown → ToldFor n x x'
+        → (runs : RunsFor opens closes remaining contents leaves is_clean saves fails options due n c c' x x' went)
+        → Onward went x'.unknown
+        → ToldFor n
+        (of_senders opens closes remaining contents leaves is_clean saves fails options due n c c' x x' went runs) x x'
     told_senders zero c c' x x' went has none runs onward = told_first c c' x x' went has none runs onward
     told_senders (suc n) c c' x x' went has none (d, y, stopped_so, before, rejoin, some, next) onward =
-        told_next n x.sends.runs.address d c' x y x' went (told_senders n c d x y stopped_so has none before (inr some))
-        next onward
+        told_next n _ x.sends.runs.address d c' x y x' went
+        (told_senders n c d x y stopped_so has none before (inr some)) next onward
 
     one_unknown : (by : Bool) (c c' : C) (x x' : LiveWas) (went : Went) → (by ≡ true → x.sends.runs.held ≡ [])
         → x.unknown ≡ 0 → RunsOne opens closes remaining contents leaves is_clean saves fails options by c c' x x' went
@@ -355,7 +397,7 @@ module _ {C I O K : Type 0} (opens : C → Option (I × O) → C → Type 0) (cl
     pub answers : List (Option Code)
     pub text : List ℕ
     pub number : length answers ≡ length (messages_in lines)
-    pub tells : TellsAll options x.sends.progress x.sends.runs again answers text
+    pub tells : TellsAll options x.sends.progress x.sends.runs again (messages_in lines) answers text
     pub appended : Appends x.sends.held held' text
     pub applied : is ≡ true → list_all was_applied answers ≡ true
 
@@ -383,21 +425,36 @@ module _ {C I O K : Type 0} (opens : C → Option (I × O) → C → Type 0) (cl
         ends = r.done on;
         answers = t.answers;
         text = begun ++ t.text;
-        number = by t.answers r.lines none r.counted t.counted;
-        tells = (t.text, t.tells, refl);
+        number = by t.answers r.lines t.lost none r.counted t.counted;
+        tells = (
+          t.text,
+          subst (λ ms. TellsFor options x.sends.progress x.sends.runs again ms t.answers t.text)
+              (sym (r.give ∙ none_lost _ t.messages t.lost t.are_all (no_more t.answers t.lost none t.counted)))
+              t.tells,
+          refl,
+        );
         appended = appends_then x.sends.held y.held z.sends.held begun t.text
             (begun_told options.form due x.sends y begins) t.appended;
         applied = λ all_so. t.applied (sym apply ∙ all_so);
       }))
     where
-      by : (answers : List (Option Code)) (lines : List (List ℕ × Given)) → z.unknown ≡ 0
+      by : (answers : List (Option Code)) (lines : List (List ℕ × Given)) (lost : List (List ℕ)) → z.unknown ≡ 0
           → z.sends.progress.taken ≡ x.sends.progress.taken + length (messages_in lines)
-          → (z.sends.progress.taken ≡ x.sends.progress.taken + (length answers + z.unknown))
+          → ((z.sends.progress.taken ≡ x.sends.progress.taken + (length answers + z.unknown))
+          × (length lost ≡ z.unknown))
           ⊎ ((answers ≡ []) × (z.sends.progress.taken ≡ x.sends.progress.taken)
-          × (z.unknown ≡ length (marks_in x.sends.runs)))
+          × (z.unknown ≡ length (marks_in x.sends.runs)) × (length lost ≡ 0))
           → length answers ≡ length (messages_in lines)
-      by answers lines none counted (inl a) = omega (arith, none, counted, a)
-      by answers lines none counted (inr (none_is, same, all)) =
+      by answers lines lost none counted (inl (a, many)) = omega (arith, none, counted, a)
+      by answers lines lost none counted (inr (none_is, same, all, none_lost_is)) =
           let zero_is = ap length none_is in omega (arith, counted, same, zero_is)
+
+      no_more : (answers : List (Option Code)) (lost : List (List ℕ)) → z.unknown ≡ 0
+          → ((z.sends.progress.taken ≡ x.sends.progress.taken + (length answers + z.unknown))
+          × (length lost ≡ z.unknown))
+          ⊎ ((answers ≡ []) × (z.sends.progress.taken ≡ x.sends.progress.taken)
+          × (z.unknown ≡ length (marks_in x.sends.runs)) × (length lost ≡ 0)) → length lost ≡ 0
+      no_more answers lost none (inl (a, many)) = many ∙ none
+      no_more answers lost none (inr (none_is, same, all, none_lost_is)) = none_lost_is
   whole_told options c c' x k' held' end applied went
       (inr (y, stop, begins, is, connect, keeper, held, takes, apply)) on = absurd (goes_not_stopped stop (on ∙ is))

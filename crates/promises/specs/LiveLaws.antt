@@ -83,7 +83,7 @@ module _ {D C I O K : Type 0} (unread : D → Option (List ℕ))
 
   -- A run that came to its end took all lines up to that of its input; and it told of each message that these gave one
   -- line, in order and under its number, and nothing else but of the server and its encoder, which without `rejoin` is
-  -- taken for a new one at no time; and its status says how that went.
+  -- taken for a new one at no time; and its status says how that went. In JSON an answer tells the message too.
   abbrev pub ToldIsTaken : Type 0
   ToldIsTaken =
       (options : LiveOptions) (c c' : C) (x : Standing ServerState K) (k' : K)
@@ -93,7 +93,8 @@ module _ {D C I O K : Type 0} (unread : D → Option (List ℕ))
       feed' said said' status → IsDone status →
       (lines : List (List ℕ × Given)) × TakesAll options (unread feed) (unread feed') said lines
       × (answers : List (Option Code)) × (text : List ℕ) × (length answers ≡ length (messages_in lines))
-      × ((again : ℕ) × (options.rejoin ≡ false → again ≡ 0) × TellsAll options x.progress x.runs again answers text)
+      × ((again : ℕ) × (options.rejoin ≡ false → again ≡ 0)
+      × TellsAll options x.progress x.runs again (messages_in lines) answers text)
       × Appends x.held held' text
       × IsStatusOf lines answers status
 

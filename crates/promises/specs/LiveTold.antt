@@ -18,13 +18,13 @@ use Rattle.sending.specs.Lines as lines
 use Rattle.sending.specs.Forms.{AreHeld, unknown_in, station_in, taken_in, given_up_in}
 use Rattle.sending.specs.Run.{marks_in}
 
--- The line of the message of this number, which was answered with this code. In JSON it tells some time, some number of
--- tries and of milliseconds, and a message and its counter besides: which, `SendsBatch` and `SettlesLive` say.
-abbrev pub IsReply : Form → (number : ℕ) → Code → (line : List ℕ) → Type 0
-IsReply Lines number code line = line ≡ lines.reply_line number code
-IsReply (Words region) number code line = line ≡ lines.reply_line number code
-IsReply Json number code line = (stamp : List ℕ) × (sent : ℕ × List ℕ) × (tries : ℕ) × (milliseconds : ℕ)
-    × IsStamp stamp × (line ≡ objects.answer_line stamp tries milliseconds number sent code)
+-- The line of this message, which has this number, and which was answered with this code. In JSON it tells the message
+-- besides, and some time, some counter, and some number of tries and of milliseconds: which, is not said here.
+abbrev pub IsReply : Form → (number : ℕ) → (message : List ℕ) → Code → (line : List ℕ) → Type 0
+IsReply Lines number message code line = line ≡ lines.reply_line number code
+IsReply (Words region) number message code line = line ≡ lines.reply_line number code
+IsReply Json number message code line = (stamp : List ℕ) × (counter : ℕ) × (tries : ℕ) × (milliseconds : ℕ)
+    × IsStamp stamp × (line ≡ objects.answer_line stamp tries milliseconds number (counter, message) code)
 
 -- the line of a message of this number that is unknown
 abbrev pub unknown_line_in : Form → (number : ℕ) → List ℕ
@@ -32,17 +32,20 @@ unknown_line_in Lines number = lines.unknown_line number
 unknown_line_in (Words region) number = lines.unknown_line number
 unknown_line_in Json number = objects.unknown_line number
 
--- What was told of the message of this number: that it was answered with this code; or that it is unknown.
-abbrev pub IsAnswer : Form → (number : ℕ) → Option Code → (line : List ℕ) → Type 0
-IsAnswer form number (Some code) line = IsReply form number code line
-IsAnswer form number None line = line ≡ unknown_line_in form number
+-- What was told of this message, which has this number: that it was answered with this code; or that it is unknown.
+abbrev pub IsAnswer : Form → (number : ℕ) → (message : List ℕ) → Option Code → (line : List ℕ) → Type 0
+IsAnswer form number message (Some code) line = IsReply form number message code line
+IsAnswer form number message None line = line ≡ unknown_line_in form number
 
--- so of messages one after another, the first of which has this number
-abbrev pub AreAnswers : Form → (first : ℕ) → List (Option Code) → (text : List ℕ) → Type 0
-AreAnswers form first [] text = text ≡ []
-AreAnswers form first (answer ∷ answers) text =
-    (line : List ℕ) × (more : List ℕ) × IsAnswer form first answer line × AreAnswers form (first + 1) answers more
-    × (text ≡ line ++ more)
+-- So of these messages one after another, the first of which has this number: of each one line, and nothing else.
+abbrev pub AreAnswers : Form → (first : ℕ) → (messages : List (List ℕ)) → (answers : List (Option Code))
+    → (text : List ℕ) → Type 0
+AreAnswers form first [] [] text = text ≡ []
+AreAnswers form first [] (answer ∷ answers) text = ⊥
+AreAnswers form first (message ∷ messages) [] text = ⊥
+AreAnswers form first (message ∷ messages) (answer ∷ answers) text =
+    (line : List ℕ) × (more : List ℕ) × IsAnswer form first message answer line
+    × AreAnswers form (first + 1) messages answers more × (text ≡ line ++ more)
 
 -- whether a message was told to be applied
 abbrev pub was_applied : Option Code → Bool
@@ -80,20 +83,24 @@ module _ (options : LiveOptions) (before : Progress) (s : ServerState) where
       s))))
       × (text ≡ waited ++ station_in options.form options.station.now told)
 
-  -- What was told by a run behind its first line: first that; and then of each message of its lines one line, in order
-  -- and under its number, with so many times in between what is told where the encoder is taken for a new one.
-  abbrev pub TellsFor : (again : ℕ) → (answers : List (Option Code)) → (text : List ℕ) → Type 0
-  TellsFor zero answers text =
+  -- What was told by a run behind its first line: first that; and then of each of these messages one line, in order and
+  -- under its number, with so many times in between what is told where the encoder is taken for a new one.
+  abbrev pub TellsFor : (again : ℕ) → (messages : List (List ℕ)) → (answers : List (Option Code)) → (text : List ℕ)
+      → Type 0
+  TellsFor zero messages answers text =
       (begin : List ℕ) × (rest : List ℕ) × IsToldFirst (is_due options.join before) begin
-      × AreAnswers options.form (before.taken + 1) answers rest × (text ≡ begin ++ rest)
-  TellsFor (suc n) answers text =
-      (earlier : List (Option Code)) × (more : List (Option Code)) × (told : List ℕ) × (between : List ℕ)
-      × (rest : List ℕ) × TellsFor n earlier told × IsToldBetween between × (answers ≡ earlier ++ more)
-      × AreAnswers options.form (before.taken + 1 + length earlier) more rest × (text ≡ told ++ (between ++ rest))
+      × AreAnswers options.form (before.taken + 1) messages answers rest × (text ≡ begin ++ rest)
+  TellsFor (suc n) messages answers text =
+      (first : List (List ℕ)) × (later : List (List ℕ)) × (earlier : List (Option Code)) × (more : List (Option Code))
+      × (told : List ℕ) × (between : List ℕ) × (rest : List ℕ) × TellsFor n first earlier told
+      × IsToldBetween between × (messages ≡ first ++ later) × (answers ≡ earlier ++ more)
+      × AreAnswers options.form (before.taken + 1 + length earlier) later more rest
+      × (text ≡ told ++ (between ++ rest))
 
   -- What was told by a whole run: how far the server had come, how many messages are given up, and then that.
-  abbrev pub TellsAll : (again : ℕ) → (answers : List (Option Code)) → (text : List ℕ) → Type 0
-  TellsAll again answers text =
-      (told : List ℕ) × TellsFor again answers told
+  abbrev pub TellsAll : (again : ℕ) → (messages : List (List ℕ)) → (answers : List (Option Code)) → (text : List ℕ)
+      → Type 0
+  TellsAll again messages answers text =
+      (told : List ℕ) × TellsFor again messages answers told
       × (text ≡ (taken_in options.form before.taken (length (waiting s))
       ++ anew_lines options.form (is_due options.join before) s) ++ told)

@@ -120,8 +120,9 @@ module _ {A J O K : Type 0} (answers : A → (milliseconds : Option ℕ) → Boo
       left))
 
   -- Law: a run that ended with 0, 1 or 4 told of each message of its lines one line, in order and under its number, and
-  -- nothing else but of the server and its encoder, and behind that in JSON its status; which says how that went. The
-  -- numbers go on from what the server had taken: that of the file where the state is in one, and else a new one.
+  -- nothing else but of the server and its encoder, and behind that in JSON its status; which says how that went. In
+  -- JSON an answer tells the message too. The numbers go on from what the server had taken: that of the file where the
+  -- state is in one, and else a new one.
   abbrev pub SentIsTold : Type 0
   SentIsTold =
       (job : SendOptions) (arrival : A) (told unread held held' : Option (List ℕ)) (said said' : Told) (status : ℕ)
@@ -134,5 +135,5 @@ module _ {A J O K : Type 0} (answers : A → (milliseconds : Option ℕ) → Boo
       × (codes : List (Option Code)) × (text : List ℕ) × (again : ℕ)
       × (between : Option (List ℕ)) × (run : Told)
       × (length codes ≡ length (messages_in lines)) × (options.rejoin ≡ false → again ≡ 0)
-      × TellsAll options before s again codes text × Appends held between text
+      × TellsAll options before s again (messages_in lines) codes text × Appends held between text
       × TellsEnd job.form status between held' run said' × IsStatusOf lines codes status

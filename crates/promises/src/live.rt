@@ -35,9 +35,9 @@ pub fn what_a_crash_leaves<F: Feed, K: Keep<SavedServer>, C: Connections>()
 /// A run that ended with status 0, 1 or 4 took all lines of its input, or with `strict` all up to one that was refused:
 /// each of them gave nothing, or was refused, and that was said, or gave a message. And what it wrote, behind the lines
 /// on the server and on what waited at the start, is one line for each of these messages, in order and under its
-/// number: a code, or that it is unknown. In between stands at most what is told of an encoder that was taken for a new
-/// one, and then joined. The status is 1 where a line was refused; else 0, and then each message is told to be applied;
-/// or 4.
+/// number: a code, in JSON with the message itself, or that it is unknown. In between stands at most what is told of an
+/// encoder that was taken for a new one, and then joined. The status is 1 where a line was refused; else 0, and then
+/// each message is told to be applied; or 4.
 ///
 /// It has no premise of the keeper.
 pub fn told_is_taken<F: Feed, K: Keep<SavedServer>, C: Connections>()
