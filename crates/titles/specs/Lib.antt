@@ -6,3 +6,4 @@ pub mod Titles
 pub mod Strings
 pub mod Parts
 pub mod Lines
+pub mod Offers
