@@ -1,6 +1,6 @@
 -- What is taken is shown.
 use Rattle.std.proofs.Common.{◌≡◌, ℕ, zero, suc, ◌<◌, ◌≤◌, Bool, true, false, cond, List, [], ◌∷◌, length, Option, Some}
-use Rattle.std.proofs.Common.{None, refl, ap, sym, subst, ◌∙◌, arith}
+use Rattle.std.proofs.Common.{None, refl, ap, sym, subst, ◌∙◌, arith, ◌⊎◌, inl, inr}
 use Rattle.std.specs.Prelude.{IfSome, slice_get, unwrap_or}
 use Rattle.std.specs.Option.{option_and_then}
 use Rattle.std.specs.FinMap.{get}
@@ -23,6 +23,8 @@ use Rattle.carousel.specs.Service.{main_service}
 use Rattle.promises.specs.OnAir.{IsText, IsService, IsOther, HasFlags}
 use Rattle.promises.specs.Station.{Station, run_on_disks, station_from}
 use Rattle.promises.specs.Acts.{history_on_disks}
+use Rattle.promises.specs.Epochs.{comes_to}
+use Rattle.promises.specs.Display.{ShownOverEpochs}
 use Rattle.promises.specs.Display.{on_air, IsApart, IsOnDisplay, WhatIsTakenIsShown}
 use Rattle.promises.proofs.Holding.{headline_lem}
 use Rattle.promises.proofs.Service.{all_have, service_is_shown}
@@ -190,3 +192,20 @@ what_is_taken_is_shown_lem e before ready shut can events fit bytes =
       station = station;
       shown = on_display s.world.encoder.value station;
     }
+
+-- ---- Over epochs.
+
+begins_well : (value left opening : Store) → (value ≡ left) ⊎ (value ≡ opening) → IsStation opening → IsStation left
+    → IsStation value
+begins_well value left opening (inl same) can can_left = subst IsStation (sym same) can_left
+begins_well value left opening (inr same) can can_left = subst IsStation (sym same) can
+
+pub shown_over_epochs_lem : ShownOverEpochs
+shown_over_epochs_lem address opening before left [] are can can_left bytes = tt
+shown_over_epochs_lem address opening before left (x ∷ xs) (at, ready, shut, value, fit, rest) can can_left bytes =
+    let begun : IsStation x.encoder.value = begins_well x.encoder.value left opening value can can_left in
+    let made = what_is_taken_is_shown_lem x.encoder before ready shut begun x.events fit bytes.0 in
+    let s : Station Store = comes_to step group_taken before x in (
+      made,
+      shown_over_epochs_lem address opening s.server_file.taken s.world.encoder.value xs rest can made.station bytes.1,
+    )

@@ -19,6 +19,7 @@ use Rattle.carousel.specs.Service.{main_service}
 use Rattle.promises.specs.OnAir.{after}
 use Rattle.promises.specs.AirLaws.{Shows, up_to_return, waiting}
 use Rattle.promises.specs.Station.{DiskEvent, FitsOnDisks, run_on_disks, station_from}
+use Rattle.promises.specs.Epochs.{Epoch, comes_to, AreEpochs}
 
 -- The stores of so many groups that go out one after another while nothing comes: each group that waits goes out once.
 abbrev pub on_air : (groups : ℕ) → Store → Carousel → List Store
@@ -64,3 +65,25 @@ WhatIsTakenIsShown =
     → let s = run_on_disks step group_taken e.address (station_from e before) events in
     AllByRecursion AreBytes s.world.once.sent
     → MakeWhatIsShown s.world.once.sent s.world.once.acknowledged e.value s.world.encoder.value
+
+-- Over epochs: each message that was sent is of bytes.
+abbrev pub AreOfBytes : (before : ℕ) → List (Epoch Store) → Type 0
+AreOfBytes before [] = Unit {0}
+AreOfBytes before (x ∷ xs) =
+    AllByRecursion AreBytes (comes_to step group_taken before x).world.once.sent
+    × AreOfBytes (comes_to step group_taken before x).server_file.taken xs
+
+-- In each the messages that were sent in it made what is shown then, of the store with which it began.
+abbrev pub MakeEach : (before : ℕ) → List (Epoch Store) → Type 0
+MakeEach before [] = Unit {0}
+MakeEach before (x ∷ xs) =
+    (let s = comes_to step group_taken before x in
+    MakeWhatIsShown s.world.once.sent s.world.once.acknowledged x.encoder.value s.world.encoder.value)
+    × MakeEach (comes_to step group_taken before x).server_file.taken xs
+
+-- Law: so it is in each of epochs that follow one another, from stores that can be.
+abbrev pub ShownOverEpochs : Type 0
+ShownOverEpochs =
+    (address : ℕ) (opening : Store) (before : ℕ) (left : Store) (epochs : List (Epoch Store))
+    → AreEpochs step group_taken address opening before left epochs → IsStation opening → IsStation left
+    → AreOfBytes before epochs → MakeEach before epochs
