@@ -5,7 +5,7 @@ use Rattle.std.proofs.Common.{map, take, Option, Some, None, refl, ap, sym, subs
 use Rattle.std.proofs.Math.Seq.{take-append-add}
 use Rattle.std.specs.Prelude.{not, is_none, is_some}
 use Rattle.std.specs.List.{AllByRecursion}
-use Rattle.std.proofs.lemmas.Bool.{cases_lt, lt-ltb}
+use Rattle.std.proofs.lemmas.Bool.{cases_lt, lt-ltb, le-leb, false≢true}
 use Rattle.std.proofs.lemmas.List.{take_all, take-append-le}
 use Rattle.uecp_elements.specs.declared.code.Code.{Code}
 use Rattle.uecp_frame.specs.declared.frame.Frame.{Frame}
@@ -14,7 +14,7 @@ use Rattle.uecp_frame.specs.Findings.{Finding, OpenPart, Closed, has_frame, is_q
 use Rattle.uecp_frame.specs.Beyond.{found_beyond, open_beyond}
 use Rattle.uecp_frame.proofs.Public.{in_pieces_lem, new_start_lem}
 use Rattle.uecp_encoder.specs.Target.{Step, Taken}
-use Rattle.uecp_encoder.specs.State.{fed}
+use Rattle.uecp_encoder.specs.State.{EncoderState, fed}
 use Rattle.uecp_encoder.specs.Answering.{reply_of}
 use Rattle.uecp_encoder.proofs.Public.{in_pieces_of_encoder}
 use Rattle.uecp_link.specs.Counters.{counter_of, is_recent}
@@ -24,7 +24,13 @@ use Rattle.uecp_link.specs.Once.{Event, FrameComes, ReplyComes, NoiseToEncoder, 
 use Rattle.uecp_link.specs.Once.{HoldsAFrame, TooLate, NotSent, refusal_of, applied_once, delivered, is_next}
 use Rattle.uecp_link.specs.Law.{reply_bytes}
 use Rattle.uecp_link.proofs.Public.{heard_open, reply_fits}
-use Rattle.promises.specs.Station.{Station, Happens, station_after, happens_on_disks, run_on_disks}
+use Rattle.promises.specs.Station.{Station, DiskEvent, Happens, station_after, happens_on_disks, run_on_disks}
+use Rattle.promises.specs.Station.{station_from, FitsOnDisks}
+use Rattle.promises.specs.Acts.{history_on_disks}
+use Rattle.uecp_link.specs.History.{Act}
+use Rattle.uecp_link.specs.Kept.{IsReady}
+use Rattle.promises.proofs.Reaching.{lawful_of}
+use Rattle.promises.proofs.Backing.{backed}
 use Rattle.promises.specs.CrashLaws.{bytes_to_encoder, stream_of}
 use Rattle.promises.specs.Coming.{AreAccepted, frames_of, IsUnderWay, frames_come, ComesToEncoder, replies_of}
 use Rattle.promises.specs.Coming.{IsAnswered}
@@ -43,6 +49,10 @@ quiet_none : is_quiet [] ≡ true
 quiet_none =
     ap (λ (fs : List Finding). not (has_frame fs))
     (sym (new_start_lem Closed []).found ∙ (new_start_lem Closed []).nothing)
+
+-- one of the last eight does not come too late
+near : (n k : ℕ) → n ≤ k + 8 → is_recent n k ≡ true
+near n k few = le-leb n (k + 127) (omega (arith, few))
 
 -- ---- What a server hears in two pieces.
 
@@ -77,7 +87,7 @@ module _ {V : Type 0} (step : Step V) (taken : Taken V) (address : ℕ) where
   frame_open o k is =
       ap (λ (b : Bool). cond b (cond (is_recent (length o.sent) k) None (Some TooLate)) (Some NotSent))
       (lt-ltb k (length o.sent) is.was_sent)
-      ∙ ap (λ (b : Bool). cond b None (Some TooLate)) is.recent
+      ∙ ap (λ (b : Bool). cond b None (Some TooLate)) (near (length o.sent) k is.recent)
 
   -- a frame leaves the messages that were sent, and of what was open before it nothing
   record Leaves (o o' : Once V) : Type 0 where
@@ -195,7 +205,7 @@ module _ {V : Type 0} (step : Step V) (taken : Taken V) (address : ℕ) where
   reply_open : (o : Once V) (k : ℕ) → IsAnswered o k → refusal_of o (ReplyComes k) ≡ None
   reply_open o k is =
       ap (λ (b : Bool). cond b (cond (is_recent (length o.sent) k) None (Some TooLate)) (Some NotSent)) is.applied
-      ∙ ap (λ (b : Bool). cond b None (Some TooLate)) is.recent
+      ∙ ap (λ (b : Bool). cond b None (Some TooLate)) (near (length o.sent) k is.recent)
 
   reply_happens : (s : Station V) (k : ℕ) → refusal_of s.world.once (ReplyComes k) ≡ None
       → happens_on_disks step taken address s (ReplyComes k) ≡ station_after step taken address s (ReplyComes k)
@@ -285,8 +295,26 @@ module _ {V : Type 0} (step : Step V) (taken : Taken V) (address : ℕ) where
                 ∙ ap (heard s.world.server) joined;
           }
 
+-- each message that is outstanding is one of the last eight
+outstanding_under_way : {V : Type 0} (step : Step V) (taken : Taken V) (e : EncoderState V) (before : ℕ)
+    (ready : IsReady e.ring) (shut : e.part ≡ Closed) (events : List DiskEvent)
+    → AllByRecursion FitsOnDisks events
+    → let o = (run_on_disks step taken e.address (station_from e before) events).world.once in
+    (k : ℕ) → k < length o.sent → o.acknowledged k ≡ false → IsUnderWay o.sent k
+outstanding_under_way {V} step taken e before ready shut events fit k below open_ =
+    let s : Station V = run_on_disks step taken e.address (station_from e before) events in
+    let acts : List Act = history_on_disks step taken e.address (station_from e before) events in
+    let h = backed step taken e before ready shut events fit in
+    let law = lawful_of step taken e ready shut s.world acts h.now in
+    elim (cases_lt k law.q) [
+      | inl gone ↦ absurd (false≢true (sym open_ ∙ law.kept.below k gone))
+      | inr held ↦
+          record { was_sent = below; recent = omega (arith, law.kept.count_is, law.kept.few, held) }
+    ]
+
 pub beginnings_lem : {V : Type 0} (step : Step V) (taken : Taken V) → BeginningsAreEvents step taken
 beginnings_lem step taken = record {
   to_encoder = λ address s numbers n none fits all. frames_on step taken address s numbers n none fits all;
   to_server = λ address s numbers n none all. replies_on step taken address s numbers n none all;
+  outstanding = λ e before ready shut events fit. outstanding_under_way step taken e before ready shut events fit;
 }

@@ -61,9 +61,9 @@ pub fn what_is_left_is_a_file<T: Target, C: Connections>()
 {}
 
 /// On a new connection whatever comes of what was written on it, cut anywhere, are events of the line, none of them
-/// refused: so many frames, or replies, come whole, and then a beginning of the next. That nothing comes too late is no
-/// premise of this, and neither is that what is cut holds no whole frame: what is written are frames of the last
-/// messages, and replies to them.
+/// refused: so many frames, or replies, come whole, and then a beginning of the next, which holds no whole frame. What
+/// is written are frames of the last eight messages, and replies to them: each message that is outstanding is one of
+/// these, after any events and crashes, so nothing of it comes too late.
 pub fn beginnings_are_events<T: Target>()
     ensures { BeginningsAreEvents T.step T.taken }
 {}
