@@ -7,7 +7,7 @@ ghost use Rattle.line_batches.specs.Intake.{ReadsTitle};
 use phrase_scripts::{PhraseLine, phrase_line};
 use rds_text::Region;
 use std::alloc::Global;
-use titles::{Title, Titles, refitted_line, title_of, with_offer};
+use titles::{Title, Titles, refitted_line, title_of};
 use uecp_frame::Message;
 use uecp_text::{TextFault, text_of};
 
@@ -59,7 +59,7 @@ fn read_phrases(alloc: Global, region: Region, line: &[u8]) -> Result<Given, Tex
     }
 }
 
-/// What a text gives that a line of phrases says. Where it is refused and could be made to fit, that is said too.
+/// What a text gives that a line of phrases says.
 fn read_text(alloc: Global, region: Region, text: &[u8]) -> Result<Given, TextFault>
     ensures reads { IfOk result (ReadsText region text.now) }
     ensures refused { IfErr result (λ fault. fault ≡ OutOfMemory) }
@@ -68,7 +68,7 @@ fn read_text(alloc: Global, region: Region, text: &[u8]) -> Result<Given, TextFa
         Ok(PhraseLine::Message(message)) => Ok(Given::Gives(message, None)),
         Ok(PhraseLine::Frame(_, _)) => Ok(Given::Refused(TextFault::NotACommand)),
         Err(TextFault::OutOfMemory) => Err(TextFault::OutOfMemory),
-        Err(fault) => Ok(Given::Refused(with_offer(alloc, region, text, fault)?)),
+        Err(fault) => Ok(Given::Refused(fault)),
     }
 }
 

@@ -1,5 +1,5 @@
 -- What a line gives, by what its text gives.
-use Rattle.std.proofs.Common.{◌≡◌, ◌⊎◌, true, List, ℕ, chars, subst, inl, inr}
+use Rattle.std.proofs.Common.{◌≡◌, ◌⊎◌, true, List, ℕ, chars, ap, subst, inl, inr}
 use Rattle.std.specs.Prelude.{Result, Ok, Err, IfOk, IfErr, IsUtf8}
 use Rattle.std.specs.Str.{trim}
 use Rattle.std.specs.Str.Lossy.{utf8_lossy}

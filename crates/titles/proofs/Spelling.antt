@@ -1,11 +1,11 @@
 -- How escapes begin, and how a string is written.
-use Rattle.std.proofs.Common.{◌≡◌, ◌≢◌, ℕ, List, [], ◌∷◌, ◌++◌, false, sym, ap, ◌∙◌, subst, arith}
+use Rattle.std.proofs.Common.{◌≡◌, ◌≢◌, ℕ, List, [], ◌∷◌, ◌++◌, false, refl, sym, ap, ◌∙◌, subst, arith}
 use Rattle.std.proofs.Common.{append-nil, append_assoc, flat_map}
 use Rattle.std.proofs.lemmas.Bool.Decides.{nat_tests}
 use Rattle.std.proofs.lemmas.Str.{encodes-append}
 use Rattle.std.specs.Char.{encode_utf8}
 use Rattle.std.specs.Prelude.{encode_utf8_all}
-use Rattle.rds_text.specs.Quoted.{Plain, Escaped, ByNumber, ByCharacter, Spells, written}
+use Rattle.rds_text.specs.Quoted.{Way, Plain, Escaped, ByNumber, ByCharacter, Spells, written}
 use Rattle.titles.specs.Strings.{IsEscape, is_plain, string_of}
 use Rattle.titles.specs.Parts.{IsEndOfPlain}
 

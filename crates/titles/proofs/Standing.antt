@@ -4,7 +4,7 @@ use Rattle.std.proofs.Common.{subst, get_or, arith, zero, suc}
 use Rattle.std.specs.Prelude.{Some, Option}
 use Rattle.std.proofs.lemmas.List.{drop_all, drop_more, length-append, length-map}
 use Rattle.rds_text.specs.BasicSet.{character_of}
-use Rattle.titles.specs.Fitting.{IsNotInSet}
+use Rattle.titles.specs.Fitting.{IsNotInSet, Puts}
 use Rattle.titles.specs.Titles.{NoneStands, Stands}
 use Rattle.titles.proofs.Leading.{Leads, leads_end, leads_on}
 

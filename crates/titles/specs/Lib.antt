@@ -6,4 +6,3 @@ pub mod Titles
 pub mod Strings
 pub mod Parts
 pub mod Lines
-pub mod Offers

@@ -3,7 +3,6 @@
 //!
 //! - [`title_of`]: what a line gives as a title.
 //! - [`refitted_line`]: what a line of phrases says, with its strings made to fit where it says nothing as it stands.
-//! - [`with_offer`]: why a line of phrases is refused, and that it could be made to fit.
 //! - [`text_of`]: a text in the basic character set, where it is in it.
 //! - [`fit`]: a text in the basic character set of RDS, where it is not in it: what is nearest to each character.
 //!
@@ -15,12 +14,10 @@ mod cut;
 mod fitting;
 mod line;
 mod nearest;
-mod offer;
 mod strings;
 mod texts;
 mod title;
 
 pub use fitting::fit;
 pub use line::refitted_line;
-pub use offer::with_offer;
 pub use title::{Title, Titles, text_of, title_of};

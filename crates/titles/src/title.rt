@@ -22,7 +22,7 @@ use uecp_text::TextFault;
 const NEW_TEXT: u8 = 0x01;
 
 /// What is said of a character that is not in the set.
-pub(crate) const NOT_IN_SET: &str = "is not in the RDS character set; --fit takes what is nearest";
+const NOT_IN_SET: &str = "is not in the RDS character set; --fit takes what is nearest";
 
 /// What is said of the first character that there is no room for.
 const TOO_LONG: &str = "is behind the 64 characters of a RadioText; --fit cuts it";

@@ -1,4 +1,4 @@
-use Rattle.std.proofs.Common.{rules, ◌<◌, ◌≤◌, length, sym, subst, false}
+use Rattle.std.proofs.Common.{rules, ◌≡◌, ◌<◌, ◌≤◌, length, sym, subst, false, true}
 use Rattle.titles.specs.Fitting.{AreParts, IsPart, Puts, PutsPart}
 use Rattle.titles.proofs.Leading.{one_no_part, parts_end, parts_on, puts_more}
 use Rattle.titles.proofs.fitting.put_parts.Goals as goal

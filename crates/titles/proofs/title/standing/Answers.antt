@@ -1,4 +1,4 @@
-use Rattle.std.proofs.Common.{rules, ◌≡◌, ◌<◌, ◌≤◌, length, get_or, arith, subst, sym}
+use Rattle.std.proofs.Common.{rules, ◌≡◌, ◌+◌, ◌<◌, ◌≤◌, length, get_or, arith, subst, sym}
 use Rattle.std.specs.Prelude.{Some}
 use Rattle.rds_text.specs.BasicSet.{character_of}
 use Rattle.titles.specs.Fitting.{IsNotInSet}

@@ -1,4 +1,4 @@
-use Rattle.std.proofs.Common.{rules, ◌≡◌, ◌≢◌, [], false, inr, subst, ◌∙◌}
+use Rattle.std.proofs.Common.{rules, ◌≡◌, ◌≢◌, [], chars, false, inr, subst, ◌∙◌}
 use Rattle.titles.specs.Titles.{NoneStands}
 use Rattle.titles.proofs.title.title_in.Goals as goal
 

@@ -1,7 +1,9 @@
-use Rattle.std.proofs.Common.{rules, ap, sym, ◌∙◌, inl}
+use Rattle.std.proofs.Common.{rules, ◌≡◌, chars, ap, sym, subst, ◌∙◌, inl, inr}
 use Rattle.std.specs.Prelude.{IsUtf8}
 use Rattle.std.specs.Str.{trim}
+use Rattle.std.specs.Str.Lossy.{utf8_lossy}
 use Rattle.std.proofs.lemmas.Str.{utf8_lossy-IsUtf8}
+use Rattle.titles.specs.Titles.{title_in}
 use Rattle.titles.proofs.Given.{gives_title, refuses_title}
 use Rattle.titles.proofs.title.title_of.Goals as goal
 
