@@ -101,7 +101,7 @@ module _ {V : Type 0} (step : Step V) (taken : Taken V) where
       go true = applied_stays o j k code is now
       go false = is
 
-  codes_stay : (o : Once V) (event : Event) (k : ℕ) (code : Code) → o.codes k ≡ Some code
+  pub codes_stay : (o : Once V) (event : Event) (k : ℕ) (code : Code) → o.codes k ≡ Some code
       → (after step taken o event).codes k ≡ Some code
   codes_stay o (Submit m) k code is = is
   codes_stay o (FrameComes j) k code is = delivered_stays o j k code is (o.codes j) refl
@@ -276,7 +276,7 @@ module _ {V : Type 0} (step : Step V) (taken : Taken V) (e : EncoderState V) (be
       }
 
   -- the server is saved as it is
-  backed_saved : (s : Station V) (acts : List Act) → Backed s acts → Backed (server_saved s) acts
+  pub backed_saved : (s : Station V) (acts : List Act) → Backed s acts → Backed (server_saved s) acts
   backed_saved s acts h = record {
     now = h.now;
     server = s.world.server;
@@ -294,7 +294,7 @@ module _ {V : Type 0} (step : Step V) (taken : Taken V) (e : EncoderState V) (be
   }
 
   -- and then what is acknowledged is told
-  backed_saves : (s : Station V) (acts : List Act) → Backed s acts → Backed (server_saves s) acts
+  pub backed_saves : (s : Station V) (acts : List Act) → Backed s acts → Backed (server_saves s) acts
   backed_saves s acts h =
       let law = lawful_of step taken e ready shut s.world acts h.now in
       let shows : ℕ → Bool = acknowledged_by s.world.server.held (length s.world.once.sent) in
@@ -331,7 +331,7 @@ module _ {V : Type 0} (step : Step V) (taken : Taken V) (e : EncoderState V) (be
       ap (λ (hs : List Held). acknowledged_by hs (length s.world.once.sent)) h.held_is
       ∙ fun_ext (acknowledged_are e.address w.encoder w.server w.once law.p law.q law.kept)
 
-  backed_server_crash : (s : Station V) (acts : List Act) → Backed s acts → Backed (server_crashes e.address s) acts
+  pub backed_server_crash : (s : Station V) (acts : List Act) → Backed s acts → Backed (server_crashes e.address s) acts
   backed_server_crash s acts h =
       let w : World V = with_server s.world h.server h.acknowledged h.noise in
       let law = lawful_of step taken e ready shut w acts h.saved in
@@ -370,7 +370,7 @@ module _ {V : Type 0} (step : Step V) (taken : Taken V) (e : EncoderState V) (be
 
   -- ---- an event
 
-  backed_after : (s : Station V) (acts : List Act) (event : Event) → Fits event
+  pub backed_after : (s : Station V) (acts : List Act) (event : Event) → Fits event
       → is_none (refusal_of s.world.once event) ≡ true
       → Backed s acts → Backed (station_after step taken e.address s event) (acts ++ brings s event)
   backed_after s acts (Submit m) fit open_ h = backed_submit s acts m fit open_ h
@@ -516,7 +516,7 @@ module _ {V : Type 0} (step : Step V) (taken : Taken V) (e : EncoderState V) (be
       (append_assoc acts brought (history_on_disks step taken e.address next events))
       (backed_run next (acts ++ brought) events fit.1 (backed_disk_event s acts event fit.0 h))
 
-  backed_from : Backed (station_from e before) []
+  pub backed_from : Backed (station_from e before) []
   backed_from =
       let at_first : Reached step taken e (start_from e) [] = record {
         events = [];
@@ -542,6 +542,11 @@ module _ {V : Type 0} (step : Step V) (taken : Taken V) (e : EncoderState V) (be
     where
       nothing : {A : Type 0} (x : A) → None ≡ Some x → ⊥
       nothing x is = absurd (cc)
+
+  -- and its file shows nothing to be acknowledged
+  pub none_shown : (k : ℕ) → acknowledged_by (station_from e before).server_file.held 0 k ≡ false
+  unfolding backed_from
+  none_shown k = ap (λ (f : ℕ → Bool). f k) (shown (station_from e before) [] backed_from)
 
   pub backed : (events : List DiskEvent) → AllByRecursion FitsOnDisks events
       → Backed (run_on_disks step taken e.address (station_from e before) events)

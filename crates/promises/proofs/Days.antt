@@ -54,23 +54,39 @@ starts_taken : (s : List ℕ) (n : ℕ) → take (length (take n s)) s ≡ take 
 starts_taken s n = ap (λ m. take m s) (length-take n s) ∙ take_min n s
 
 module _ {V : Type 0} (step : Step V) (taken : Taken V) where
-  deeds_on : (k : Kept V) (xs ys : List Deed)
+  pub deeds_on : (k : Kept V) (xs ys : List Deed)
       → after_deeds step taken k (xs ++ ys) ≡ after_deeds step taken (after_deeds step taken k xs) ys
   deeds_on k [] ys = refl
   deeds_on k (x ∷ xs) ys = deeds_on (after_deed step taken k x) xs ys
 
   -- one life so far
-  record Lived (e e' : EncoderState V) (deeds : List Deed) : Type 0 where
+  pub record Lived (e e' : EncoderState V) (deeds : List Deed) : Type 0 where
     pub store : kept_of e' ≡ after_deeds step taken (kept_of e) deeds
     pub leads : Leads (newest e.ring) deeds (newest e'.ring)
     pub address : e'.address ≡ e.address
 
-  lived_on : (e e1 e2 : EncoderState V) (xs ys : List Deed) → Lived e e1 xs → Lived e1 e2 ys → Lived e e2 (xs ++ ys)
+  pub lived_on : (e e1 e2 : EncoderState V) (xs ys : List Deed) → Lived e e1 xs → Lived e1 e2 ys → Lived e e2 (xs ++ ys)
   lived_on e e1 e2 xs ys one more = record {
     store = more.store ∙ ap (λ k. after_deeds step taken k ys) one.store ∙ sym (deeds_on (kept_of e) xs ys);
     leads = leads_on (newest e.ring) (newest e1.ring) (newest e2.ring) xs ys one.leads more.leads;
     address = more.address ∙ one.address;
   }
+
+  -- the same encoder, but for what it counted and what is open
+  pub still_lived : (e e1 e2 : EncoderState V) (deeds : List Deed) → kept_of e2 ≡ kept_of e1
+      → e2.address ≡ e1.address → Lived e e1 deeds → Lived e e2 deeds
+  still_lived e e1 e2 deeds kept address l = record {
+    store = kept ∙ l.store;
+    leads = subst (λ (k : Kept V). Leads (newest e.ring) deeds (newest k.ring)) (sym kept) l.leads;
+    address = address ∙ l.address;
+  }
+
+  -- a group is taken
+  pub taken_lived : (e e1 : EncoderState V) (deeds : List Deed) → Lived e e1 deeds
+      → Lived e (record e1 { value = (taken e1.value).0 }) (deeds ++ TakesOne ∷ [])
+  taken_lived e e1 deeds l =
+      lived_on e e1 (record e1 { value = (taken e1.value).0 }) deeds (TakesOne ∷ []) l
+      (record { store = refl; leads = refl; address = refl })
 
   -- ---- A finding.
 
@@ -111,7 +127,7 @@ module _ {V : Type 0} (step : Step V) (taken : Taken V) where
 
   -- ---- Bytes.
 
-  fed_lived : (e : EncoderState V) (bytes : List ℕ) → Lived e (fed step e bytes) (deeds_of step e bytes)
+  pub fed_lived : (e : EncoderState V) (bytes : List ℕ) → Lived e (fed step e bytes) (deeds_of step e bytes)
   fed_lived e bytes =
       let found = found_beyond e.part bytes in
       let part = open_beyond e.part bytes in

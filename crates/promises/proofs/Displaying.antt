@@ -24,7 +24,11 @@ use Rattle.promises.specs.OnAir.{IsText, IsService, IsOther, HasFlags}
 use Rattle.promises.specs.Station.{Station, run_on_disks, station_from}
 use Rattle.promises.specs.Acts.{history_on_disks}
 use Rattle.promises.specs.Epochs.{comes_to}
-use Rattle.promises.specs.Display.{ShownOverEpochs}
+use Rattle.promises.specs.Display.{ShownOverEpochs, EachLineIsShown}
+use Rattle.promises.specs.Ends.{Ends, ends_from, run_ends}
+use Rattle.uecp_encoder.specs.Keeping.{Kept}
+use Rattle.promises.proofs.EndFrames.{law_at}
+use Rattle.promises.proofs.EachLine.{each_matches, each_line_once_lem}
 use Rattle.promises.specs.Display.{on_air, IsApart, IsOnDisplay, WhatIsTakenIsShown}
 use Rattle.promises.proofs.Holding.{headline_lem}
 use Rattle.promises.proofs.Service.{all_have, service_is_shown}
@@ -209,3 +213,21 @@ shown_over_epochs_lem address opening before left (x ∷ xs) (at, ready, shut, v
       made,
       shown_over_epochs_lem address opening s.server_file.taken s.world.encoder.value xs rest can made.station bytes.1,
     )
+
+-- and so it is over both ends and the bytes between them
+pub each_line_is_shown_lem : EachLineIsShown
+each_line_is_shown_lem e server before ready shut can new events may bytes =
+    let m = each_matches step group_taken e server before ready shut new events may in
+    let sent : List (List ℕ) = m.s.world.once.sent in
+    let law = law_at step group_taken e before ready shut m.s m.acts m.backed in
+    let x : Ends Store = run_ends step group_taken (ends_from e server before) events in
+    let makes : x.transmitter.encoder.value ≡ value_after step group_taken sent e.value m.acts =
+    ap (λ (k : Kept Store). k.value) m.kept ∙ law.2.target in
+    let station : IsStation x.transmitter.encoder.value =
+    subst IsStation (sym makes)
+    (station_stays sent e.value m.acts can (subst (AllByRecursion AreBytes) m.studio.sent bytes)) in
+    record {
+      once = each_line_once_lem step group_taken e server before ready shut new events may;
+      station = station;
+      shown = on_display x.transmitter.encoder.value station;
+    }

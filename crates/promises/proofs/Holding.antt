@@ -98,8 +98,9 @@ module _ {V : Type 0} (step : Step V) (taken : Taken V) (address : ℕ) (opening
       }
 
 -- what its files hold
-files_hold : {V : Type 0} (step : Step V) (taken : Taken V) (e : EncoderState V) (before : ℕ) (ready : IsReady e.ring)
-    (shut : e.part ≡ Closed) (s : Station V) (acts : List Act) → Backed step taken e before ready shut s acts
+pub files_hold : {V : Type 0} (step : Step V) (taken : Taken V) (e : EncoderState V) (before : ℕ)
+    (ready : IsReady e.ring) (shut : e.part ≡ Closed) (s : Station V) (acts : List Act)
+    → Backed step taken e before ready shut s acts
     → FilesHold before s
 files_hold {V} step taken e before ready shut s acts h =
     let file : World V = with_server s.world h.server h.acknowledged h.noise in

@@ -20,10 +20,22 @@ pub mod Backing
 pub mod Holding
 pub mod CrashEnding
 pub mod Epochs
-pub mod Coming
-pub mod Displaying
 pub mod Streaming
 pub mod Submitting
+pub mod Days
+pub mod Cutting
+pub mod Uncounted
+pub mod EndLists
+pub mod EndFrames
+pub mod EndReplies
+pub mod EndsMatch
+pub mod AtTransmitter
+pub mod AtStudio
+pub mod StudioHears
+pub mod EachLine
+pub mod Displaying
+pub mod Doings
+pub mod Histories
 pub mod Begun
 pub mod LiveLines
 pub mod Statuses
@@ -34,7 +46,6 @@ pub mod Senders
 pub mod Runs
 pub mod LiveEnding
 pub mod SendEnding
-pub mod Days
 pub mod DeviceRuns
 mod KeeperRuns
 pub mod LiveAnswering

@@ -36,7 +36,7 @@ none_taken progress s = ap (λ (t : ℕ). kept_of (record progress { taken = t }
     (let e : progress.taken ≡ progress.taken + 0 = omega arith in e)
 
 -- a server that holds fewer than eight takes a message
-room : {V : Type 0} (step : Step V) (taken : Taken V) (e : EncoderState V) (before : ℕ) (ready : IsReady e.ring)
+pub room : {V : Type 0} (step : Step V) (taken : Taken V) (e : EncoderState V) (before : ℕ) (ready : IsReady e.ring)
     (shut : e.part ≡ Closed)
     (s : Station V) (acts : List Act) (m : List ℕ) → Backed step taken e before ready shut s acts
     → length s.world.server.held < 8 → is_none (refusal_of s.world.once (Submit m)) ≡ true

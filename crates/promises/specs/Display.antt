@@ -4,6 +4,7 @@ use Rattle.std.specs.List.{AllByRecursion}
 use Rattle.uecp_elements.specs.Grammar.{AreBytes}
 use Rattle.uecp_frame.specs.Findings.{Closed}
 use Rattle.uecp_encoder.specs.State.{EncoderState}
+use Rattle.uecp_link.specs.Server.{ServerState}
 use Rattle.uecp_link.specs.History.{Act, messages_in, numbers_below}
 use Rattle.uecp_link.specs.Fold.{value_after}
 use Rattle.uecp_link.specs.Kept.{IsReady}
@@ -20,6 +21,8 @@ use Rattle.promises.specs.OnAir.{after}
 use Rattle.promises.specs.AirLaws.{Shows, up_to_return, waiting}
 use Rattle.promises.specs.Station.{DiskEvent, FitsOnDisks, run_on_disks, station_from}
 use Rattle.promises.specs.Epochs.{Epoch, comes_to, AreEpochs}
+use Rattle.promises.specs.Ends.{Ends, EndEvent, IsNewServer, ends_from, run_ends, MayAll}
+use Rattle.promises.specs.EachLine.{IsEachOnce}
 
 -- The stores of so many groups that go out one after another while nothing comes: each group that waits goes out once.
 abbrev pub on_air : (groups : ℕ) → Store → Carousel → List Store
@@ -87,3 +90,18 @@ ShownOverEpochs =
     (address : ℕ) (opening : Store) (before : ℕ) (left : Store) (epochs : List (Epoch Store))
     → AreEpochs step group_taken address opening before left epochs → IsStation opening → IsStation left
     → AreOfBytes before epochs → MakeEach before epochs
+
+-- Each line is there once; and the store is one that can be, and what a receiver shows.
+pub record IsOnceAndShown (e : EncoderState Store) (before : ℕ) (x : Ends Store) : Type 0 where
+  pub once : IsEachOnce step group_taken e before x
+  pub station : IsStation x.transmitter.encoder.value
+  pub shown : IsOnDisplay x.transmitter.encoder.value
+
+-- Law: so it is over both ends and the bytes between them, whatever happened.
+abbrev pub EachLineIsShown : Type 0
+EachLineIsShown =
+    (e : EncoderState Store) (server : ServerState) (before : ℕ) → IsReady e.ring → e.part ≡ Closed → IsStation e.value
+    → IsNewServer e.address server → (events : List EndEvent)
+    → MayAll step group_taken (ends_from e server before) events
+    → let x = run_ends step group_taken (ends_from e server before) events in
+    AllByRecursion AreBytes x.studio.sent → IsOnceAndShown e before x

@@ -1,5 +1,6 @@
 -- The definitions of what holds of the whole, and those of lower crates that its laws cite: of what a receiver shows,
--- of both ends with their files, of a whole run, and of a station that was sent to an encoder.
+-- of both ends with their files and the bytes between them, of a whole run, and of a station that was sent to an
+-- encoder.
 pub mod OnAir
 pub mod AirLaws
 pub mod Said
@@ -11,9 +12,12 @@ pub mod Station
 pub mod Acts
 pub mod CrashLaws
 pub mod Epochs
-pub mod Coming
-pub mod Display
 pub mod DeviceLives
+pub mod Ends
+pub mod EachLine
+pub mod Doings
+pub mod Histories
+pub mod Display
 pub mod DeviceRuns
 pub mod Taken
 pub mod Left

@@ -4,7 +4,6 @@
 ghost use Rattle.promises.specs.CrashLaws.{CrashesAreLineEvents, HeadlineWithDisks, AcknowledgedAfterAnyCrash};
 ghost use Rattle.promises.specs.CrashLaws.{WhatIsLeftIsACut, WhatIsLeftIsAFile};
 ghost use Rattle.promises.specs.Epochs.{HeadlineOverEpochs};
-ghost use Rattle.promises.specs.Coming.{BeginningsAreEvents};
 
 use uecp_encoder::Target;
 use uecp_net::Connections;
@@ -58,12 +57,4 @@ pub fn what_is_left_is_a_cut<T: Target>()
 /// here: as it was, with the batch submitted, or after one more save.
 pub fn what_is_left_is_a_file<T: Target, C: Connections>()
     ensures { WhatIsLeftIsAFile C C.Input C.Output T.step T.taken }
-{}
-
-/// On a new connection whatever comes of what was written on it, cut anywhere, are events of the line, none of them
-/// refused: so many frames, or replies, come whole, and then a beginning of the next, which holds no whole frame. What
-/// is written are frames of the last eight messages, and replies to them: each message that is outstanding is one of
-/// these, after any events and crashes, so nothing of it comes too late.
-pub fn beginnings_are_events<T: Target>()
-    ensures { BeginningsAreEvents T.step T.taken }
 {}

@@ -1,0 +1,102 @@
+-- Each line once: what holds of both ends, their files and the bytes between them, after whatever happened. Source:
+-- profile.
+use Rattle.std.specs.Prelude.{◌≡◌, ◌⊎◌, ℕ, ◌+◌, ◌<◌, ◌≤◌, List, [], ◌∷◌, length, take, slice_get, true, is_some, Some}
+use Rattle.std.specs.Prelude.{Contains}
+use Rattle.uecp_elements.specs.declared.code.Code.{Code}
+use Rattle.uecp_frame.specs.Findings.{Closed}
+use Rattle.uecp_encoder.specs.Target.{Step, Taken}
+use Rattle.uecp_encoder.specs.State.{EncoderState}
+use Rattle.uecp_encoder.specs.Keeping.{kept_of}
+use Rattle.uecp_link.specs.Counters.{counter_of}
+use Rattle.uecp_link.specs.Server.{ServerState, waiting_among}
+use Rattle.uecp_link.specs.Once.{message_at}
+use Rattle.uecp_link.specs.Kept.{IsReady}
+use Rattle.promises.specs.DeviceLives.{Deed, Applies, TakesOne, after_deeds}
+use Rattle.promises.specs.Ends.{Ends, EndEvent, IsNewServer, ends_from, run_ends, MayAll, at_studio, at_transmitter}
+use Rattle.promises.specs.Ends.{run_studio, run_transmitter}
+
+-- The messages that were applied, in order.
+abbrev pub messages_of : List Deed → List (List ℕ)
+messages_of [] = []
+messages_of (Applies counter message ∷ deeds) = message ∷ messages_of deeds
+messages_of (TakesOne ∷ deeds) = messages_of deeds
+
+-- The code that each of them got.
+abbrev pub codes_of : {V : Type 0} → Step V → Taken V → V → List Deed → List Code
+codes_of step taken v [] = []
+codes_of step taken v (Applies counter message ∷ deeds) =
+    (step v message).1 ∷ codes_of step taken (step v message).0 deeds
+codes_of step taken v (TakesOne ∷ deeds) = codes_of step taken (taken v).0 deeds
+
+-- The encoder's store is what the first so many of the lines taken make, each once and in order, with the groups taken
+-- between, of the store that it had at first: all of them, once each was told with a code. Each line that was told with
+-- one is one of these, and that is the code that it got. Each that is not one of them waits in the studio's file, under
+-- its counter; and that file counts the lines taken, and no other.
+pub record IsEachOnce {V : Type 0} (step : Step V) (taken : Taken V) (e : EncoderState V) (before : ℕ)
+    (x : Ends V) : Type 0 where
+  pub applied : ℕ
+  pub some : (applied ≤ length x.studio.sent) × (length x.studio.sent ≤ applied + 8)
+  pub all : ((k : ℕ) → k < length x.studio.sent → is_some (x.studio.told k) ≡ true) → applied ≡ length x.studio.sent
+  pub once : messages_of x.transmitter.deeds ≡ take applied x.studio.sent
+  pub store : kept_of x.transmitter.encoder ≡ after_deeds step taken (kept_of e) x.transmitter.deeds
+  pub told : (k : ℕ) (code : Code) → x.studio.told k ≡ Some code
+      → (k < applied) × (slice_get (codes_of step taken e.value x.transmitter.deeds) k ≡ Some code)
+  pub waits : (k : ℕ) → applied ≤ k → k < length x.studio.sent
+      → Contains (waiting_among x.studio.file.held) (counter_of k, message_at x.studio.sent k)
+  pub counted : x.studio.file.taken ≡ before + length x.studio.sent
+
+-- Law: so it is after whatever may happen, from an encoder that is ready, as a new one is or one that was joined, and a
+-- new server for it.
+abbrev pub EachLineOnce : {V : Type 0} → Step V → Taken V → Type 0
+EachLineOnce {V} step taken =
+    (e : EncoderState V) (server : ServerState) (before : ℕ) → IsReady e.ring → e.part ≡ Closed
+    → IsNewServer e.address server → (events : List EndEvent) → MayAll step taken (ends_from e server before) events
+    → IsEachOnce step taken e before (run_ends step taken (ends_from e server before) events)
+
+-- Law: what an end comes to is what its own events make of it: the other end reaches it by bytes alone, which are in
+-- its own `Hears` and `Reads`.
+pub record IsOfItsOwn {V : Type 0} (step : Step V) (taken : Taken V) (x : Ends V) (events : List EndEvent) : Type 0
+  where
+    pub studio : (run_ends step taken x events).studio ≡ run_studio x.studio (at_studio events)
+    pub transmitter : (run_ends step taken x events).transmitter
+        ≡ run_transmitter step taken x.transmitter (at_transmitter events)
+
+abbrev pub EachEndIsItsOwn : {V : Type 0} → Step V → Taken V → Type 0
+EachEndIsItsOwn {V} step taken = (x : Ends V) (events : List EndEvent) → IsOfItsOwn step taken x events
+
+-- ---- Over beginnings anew.
+
+-- What happens from one beginning anew up to the next: the encoder as it is once it was joined, the server that joined
+-- it, and what happens then.
+pub record Stretch (V : Type 0) : Type 0 where
+  pub encoder : EncoderState V
+  pub server : ServerState
+  pub events : List EndEvent
+
+-- What that comes to where so many lines were taken before.
+abbrev pub end_of : {V : Type 0} → Step V → Taken V → (before : ℕ) → Stretch V → Ends V
+end_of step taken before x = run_ends step taken (ends_from x.encoder x.server before) x.events
+
+-- One behind another, from so many lines on, and a store: at each the encoder at this address is ready, and has the
+-- store that was left before; or it is a new one, or lost its file, and has the opening store.
+abbrev pub AreStretches : {V : Type 0} → Step V → Taken V → (address : ℕ) → (opening : V) → (before : ℕ) → (left : V)
+    → List (Stretch V) → Type 0
+AreStretches step taken address opening before left [] = Unit {0}
+AreStretches step taken address opening before left (x ∷ xs) =
+    (x.encoder.address ≡ address) × IsReady x.encoder.ring × (x.encoder.part ≡ Closed)
+    × ((x.encoder.value ≡ left) ⊎ (x.encoder.value ≡ opening)) × IsNewServer address x.server
+    × MayAll step taken (ends_from x.encoder x.server before) x.events
+    × AreStretches step taken address opening (end_of step taken before x).studio.file.taken
+    (end_of step taken before x).transmitter.encoder.value xs
+
+-- In each, each line is there once: of the lines taken in it, and of the store that it began with.
+abbrev pub AreEachOnce : {V : Type 0} → Step V → Taken V → (before : ℕ) → List (Stretch V) → Type 0
+AreEachOnce step taken before [] = Unit {0}
+AreEachOnce step taken before (x ∷ xs) =
+    IsEachOnce step taken x.encoder before (end_of step taken before x)
+    × AreEachOnce step taken (end_of step taken before x).studio.file.taken xs
+
+abbrev pub EachLineOnceOverStretches : {V : Type 0} → Step V → Taken V → Type 0
+EachLineOnceOverStretches {V} step taken =
+    (address : ℕ) (opening : V) (before : ℕ) (left : V) (stretches : List (Stretch V))
+    → AreStretches step taken address opening before left stretches → AreEachOnce step taken before stretches

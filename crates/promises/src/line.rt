@@ -1,0 +1,69 @@
+//! Each line once: both ends of the line with their files, and the bytes that are on their way between them, connection
+//! by connection. A law over whatever happens at either end; and laws by which the calls that the program makes do just
+//! that. No code.
+ghost use Rattle.promises.specs.EachLine.{EachLineOnce, EachLineOnceOverStretches, EachEndIsItsOwn};
+ghost use Rattle.promises.specs.Doings.{StudioDoes, DaysAreEndEvents};
+ghost use Rattle.promises.specs.Display.{EachLineIsShown};
+ghost use Rattle.promises.specs.Histories.{FourHistories};
+
+use uecp_encoder::{Keep, Target};
+use uecp_net::{Connections, SavedServer};
+
+/// Whatever happens: lines are taken, connections dialled, frames written, bytes read at either end, in any pieces, or
+/// lost with a connection; either end crashes at any moment and goes on from its file; groups go on the air. Then the
+/// encoder's store is what a beginning of the lines taken makes, each once and in order, with the groups taken between.
+/// Each line that was told with a code is in that beginning, and got that code. Each line that is not in it waits in
+/// the studio's file, under its counter; and that file counts the lines taken, and no other.
+///
+/// Its premise on the outside (`MayHappen`): what an end reads of a connection is a beginning of what the other end
+/// wrote on it; the encoder takes connections in the order in which they were dialled; and a connection that is of
+/// nobody here brings no message for this encoder. That nothing comes too late is no premise: it follows, since each
+/// frame is read behind those that were written before it, and of messages at most eight wait.
+///
+/// At first the encoder is ready, as a new one is or one that was joined, and the server is new.
+pub fn each_line_once<T: Target>()
+    ensures { EachLineOnce T.step T.taken }
+{}
+
+/// So it is in each of any number of stretches, one behind another, each from a beginning anew: there the encoder has
+/// the store that was left, or, where it is a new one or lost its file, the opening one. What waited at a beginning
+/// anew is given up, and a station that a crash cut is sent again: both are of the stretch before.
+pub fn each_line_once_over_stretches<T: Target>()
+    ensures { EachLineOnceOverStretches T.step T.taken }
+{}
+
+/// And a receiver shows what these lines made: of RDS stores, from one that can be, where each line is of bytes, the
+/// store is again one that can be, and while nothing more comes a receiver shows its main service and its text, as
+/// [`what_is_taken_is_shown`](crate::display::what_is_taken_is_shown) says.
+pub fn each_line_is_shown()
+    ensures { EachLineIsShown }
+{}
+
+/// What an end comes to is what its own events make of it: the other one reaches it by bytes alone. So where a run of
+/// the studio does some events ([`studio_does`]), and one of the encoder some others ([`transmitter_does`]),
+/// [`each_line_once`] is of both, in whichever order they fell in which each byte was read behind its writing.
+pub fn each_end_is_its_own<T: Target>()
+    ensures { EachEndIsItsOwn T.step T.taken }
+{}
+
+/// What the clauses of `uecp_net` say of a call of `send_kept`, and of the connections on which it sends, is done by
+/// such events, with the bytes that it wrote and read; what it tells of its batch is the code of the first mark under
+/// each counter; and what a crash leaves within it is its file behind such events and a crash.
+///
+/// Its premise: the studio has the server and the file with which the call begins.
+pub fn studio_does<C: Connections, K: Keep<SavedServer>>()
+    ensures { StudioDoes C.opens C.closes C.Input.remaining C.Output.contents K.saves K.fails }
+{}
+
+/// The days of an encoder are such events at its end. They are what the clauses of the calls come to that serve it:
+/// [`device_is_days`](crate::device::device_is_days), [`air_is_days`](crate::device::air_is_days).
+pub fn transmitter_does<T: Target>()
+    ensures { DaysAreEndEvents T.step T.taken }
+{}
+
+/// Four histories, byte by byte, computed: each may happen, and comes out as it should. Each end is killed within a
+/// save; a reply is cut off with its connection; a port scanner comes between two connections, with a frame for another
+/// encoder; and an encoder comes back with nothing, and is joined anew.
+pub fn four_histories()
+    ensures { FourHistories }
+{}
