@@ -13,7 +13,7 @@ use Rattle.sending.specs.Run.{LivesFrom, MakesOnce, SettlesOnce, from_anew}
 use Rattle.promises.specs.Taken.{AreBatches}
 
 module _ {T : Type 0} (takes : List (List ℕ) → After → T → T → Type 0) where
-  batches_on : (a b : List (List (List ℕ))) (x y z : T) → AreBatches takes a x y → AreBatches takes b y z
+  pub batches_on : (a b : List (List (List ℕ))) (x y z : T) → AreBatches takes a x y → AreBatches takes b y z
       → AreBatches takes (a ++ b) x z
   batches_on [] b x y z same more = subst (λ u. AreBatches takes b u z) same more
   batches_on (messages ∷ a) b x y z (after, u, one, rest) more =

@@ -22,7 +22,7 @@ use Rattle.promises.proofs.Statuses.{not_so, answers_status}
 abbrev pub IsSettled : Ended → Type 0
 IsSettled ended = (settled : Settled) × (ended ≡ Ok settled)
 
-answers_settled : (form : Form) (are_told : Settled → List ℕ → Type 0) (counts : ServerCounts) (ended : Ended)
+pub answers_settled : (form : Form) (are_told : Settled → List ℕ → Type 0) (counts : ServerCounts) (ended : Ended)
     (held held' : Option (List ℕ)) (went : Went) → AnswersTold (Numbered form) are_told counts ended held held' went
     → goes ≡ went
     → IsSettled ended

@@ -1,7 +1,7 @@
 -- What the calls do that the program makes is done by events of both ends.
 use mathlib.Core.Path.{fun_ext}
-use Rattle.std.proofs.Common.{◌≡◌, ℕ, zero, suc, Bool, true, false, cond, List, [], ◌∷◌, ◌++◌, length, Option}
-use Rattle.std.proofs.Common.{Some, None, Ok, Err, refl, ap, sym, subst, ◌∙◌, inl, inr, append_assoc, append-nil}
+use Rattle.std.proofs.Common.{◌≡◌, ℕ, zero, suc, Bool, true, false, cond, List, [], ◌∷◌, ◌++◌, length, map, Option}
+use Rattle.std.proofs.Common.{Some, None, Ok, Err, refl, ap, sym, subst, ◌∙◌, inl, inr, ◌⊎◌, append_assoc, append-nil}
 use Rattle.std.specs.Prelude.{Result}
 use Rattle.std.specs.Option.{option_or}
 use Rattle.std.specs.List.{AllByRecursion}
@@ -16,7 +16,7 @@ use Rattle.uecp_link.specs.declared.driving.DriveFault.{DriveFault}
 use Rattle.uecp_link.specs.declared.driving.DriveFault.TheVariants as drive
 use Rattle.uecp_link.specs.declared.window.Windowed.{Windowed}
 use Rattle.uecp_link.specs.declared.window.Windowed.TheVariants.{Idle, Spent}
-use Rattle.uecp_link.specs.Server.{ServerState, submitted, heard}
+use Rattle.uecp_link.specs.Server.{ServerState, counters_waiting, heard}
 use Rattle.uecp_link.specs.Window.{code_under, marks_in}
 use Rattle.uecp_link.proofs.Public.{code_under-append}
 use Rattle.uecp_net.specs.declared.sender.Outstanding.{Outstanding as Reason}
@@ -28,24 +28,26 @@ use Rattle.uecp_net.specs.Sending.{SenderOver, Marks, Delivers, Attempts, HangsU
 use Rattle.uecp_net.specs.Sending.{Underway, underway, Calls, AreTold, submitted_all, submitted_to, reconnecting}
 use Rattle.uecp_net.specs.Sending.{reason_of}
 use Rattle.uecp_net.specs.Keeping.{KeptServer, kept_of, going_on, taking}
-use Rattle.uecp_net.specs.SavedSending.{Ended, SettlesKept, SendsKept, OutlivesBatch, Acknowledges, GivesUp, Settles}
+use Rattle.uecp_net.specs.SavedSending.{Ended, SettlesKept, SendsKept, Outlives, OutlivesBatch, Acknowledges, GivesUp}
+use Rattle.uecp_net.specs.SavedSending.{Settles}
 use Rattle.promises.specs.Station.{progress_in}
 use Rattle.promises.specs.DeviceLives.{DeviceEvent, HangsUp as DeviceHangsUp, Crashes, TakesGroup, StartsAgain, Deed}
 use Rattle.promises.specs.DeviceLives.{Reads as DeviceReads, Happens}
 use Rattle.promises.specs.Ends.{Studio, Transmitter, EndEvent, TakesLines, Dials, Writes, Hears, Tells, StudioCrashes}
 use Rattle.promises.specs.Ends.{Reads, Leaves, EncoderCrashes, Gives, Stranger, is_at_studio, is_of_last, heard_with}
 use Rattle.promises.specs.Ends.{studio_after, transmitter_after, submitted_each, run_studio, run_transmitter}
-use Rattle.promises.specs.Doings.{IsOnConnection, GoesOver, SendsAs, CrashesAs, StudioDoes, TransmitterDoes}
+use Rattle.promises.specs.Doings.{IsOnConnection, GoesOver, HasServer, IsUntold, SettlesAs, CrashesAs, StudioDoes}
+use Rattle.promises.specs.Doings.{TransmitterDoes}
 use Rattle.promises.specs.Doings.{DaysAreEndEvents}
 use Rattle.promises.proofs.Days.{fed_lived}
 
 -- ---- lists of events
 
-runs_on : (x : Studio) (xs ys : List EndEvent) → run_studio x (xs ++ ys) ≡ run_studio (run_studio x xs) ys
+pub runs_on : (x : Studio) (xs ys : List EndEvent) → run_studio x (xs ++ ys) ≡ run_studio (run_studio x xs) ys
 runs_on x [] ys = refl
 runs_on x (event ∷ xs) ys = runs_on (studio_after x event) xs ys
 
-all_events : (P : EndEvent → Type 0) (xs ys : List EndEvent) → AllByRecursion P xs → AllByRecursion P ys
+pub all_events : (P : EndEvent → Type 0) (xs ys : List EndEvent) → AllByRecursion P xs → AllByRecursion P ys
     → AllByRecursion P (xs ++ ys)
 all_events P [] ys h k = k
 all_events P (x ∷ xs) ys h k = (h.0, all_events P xs ys h.1 k)
@@ -63,7 +65,7 @@ on_is_at EncoderCrashes on = absurd on
 on_is_at Gives on = absurd on
 on_is_at (Stranger bytes) on = absurd on
 
-all_at : (events : List EndEvent) → AllByRecursion IsOnConnection events
+pub all_at : (events : List EndEvent) → AllByRecursion IsOnConnection events
     → AllByRecursion (λ event. is_at_studio event ≡ true) events
 all_at [] on = tt
 all_at (event ∷ events) on = (on_is_at event on.0, all_at events on.1)
@@ -241,6 +243,152 @@ module _ {C I O K : Type 0} (opens : C → Option (I × O) → C → Type 0) (cl
       subst (λ (s : ServerState). GoesFrom old.sender.server s marks marks') (sym (hung_up last new hangs))
       (attempt_goes old last marks marks' (Err fault) attempts)
 
+  -- ---- what waits is settled
+
+  abbrev Has : Studio → Progress → Over → Type 0
+  Has x progress s = HasServer opens closes remaining contents saves fails x progress s
+
+  -- what went, however it ended
+  record Went (x : Studio) (new : Over) : Type 0 where
+    marks : Marks
+    over : GoesOver x new.sender.server marks
+    address : new.sender.server.address ≡ x.server.address
+
+  over_so : (x : Studio) (progress : Progress) (old new : Over) → Has x progress old → (ended : ℕ) (before : Reason)
+      (marks : Marks) (result : Result ℕ Reason)
+      → Delivers opens closes remaining contents ended before old new [] marks result
+      → GoesOver x new.sender.server marks
+  over_so x progress old new has ended before marks result delivers =
+      let (more, are, over) = delivers_goes ended before old new [] marks result delivers x has.server in
+      subst (GoesOver x new.sender.server) (sym are) over
+
+  acknowledged_went : (x : Studio) (progress : Progress) (old new : Over) → Has x progress old → (settled : Settled)
+      → Acknowledges opens closes remaining contents old new settled → Went x new
+  acknowledged_went x progress old new has settled a = record {
+    marks = a.marks;
+    over = over_so x progress old new has a.ended ConnectionFailed a.marks (Ok settled.tries) a.delivers;
+    address = ap (λ (s : ServerState). s.address) a.freed ∙ ap (λ (s : ServerState). s.address) (sym has.server);
+  }
+
+  given_up_went : (x : Studio) (progress : Progress) (old new : Over) → Has x progress old → (reason : Reason)
+      → GivesUp opens closes remaining contents old new reason → Went x new
+  given_up_went x progress old new has reason g = record {
+    marks = g.marks;
+    over = over_so x progress old new has g.ended ConnectionFailed g.marks (Err reason) g.delivers;
+    address = g.wait.1 ∙ ap (λ (s : ServerState). s.address) (sym has.server);
+  }
+
+  settles_went : (x : Studio) (progress : Progress) (old new : Over) → Has x progress old
+      → (result : Result Settled Reason) → Settles opens closes remaining contents old new result → Went x new
+  settles_went x progress old new has (Ok settled) a = acknowledged_went x progress old new has settled a
+  settles_went x progress old new has (Err reason) g = given_up_went x progress old new has reason g
+
+  kept_went : (x : Studio) (progress : Progress) (old new : Over) → Has x progress old → (k k' : K) (ended : Ended)
+      → SettlesKept opens closes remaining contents saves fails progress old new k k' ended → Went x new
+  kept_went x progress old new has k k' (Ok settled) (a, saved) = acknowledged_went x progress old new has settled a
+  kept_went x progress old new has k k' (Err (Outstanding reason)) (g, saved) =
+      given_up_went x progress old new has reason g
+  kept_went x progress old new has k k' (Err StateFailed) (result, settles, failed) =
+      settles_went x progress old new has result settles
+
+  told_so : (x : Studio) (progress : Progress) (old new : Over) → Has x progress old → (marks : Marks)
+      → GoesOver x new.sender.server marks
+      → SettlesAs x new.sender.server (kept_of progress new.sender.server) marks
+  told_so x progress old new has marks over = record {
+    over = over.events;
+    on = over.on;
+    leads = runs_on x over.events (Tells ∷ []) ∙ ap (λ (y : Studio). studio_after y Tells) over.leads
+        ∙ ap (λ (file : KeptServer). record x {
+          server = new.sender.server;
+          file = kept_of (progress_in file) new.sender.server;
+          heard = heard_with (length x.sent) x.heard marks;
+          told = λ k. option_or (x.told k) (heard_with (length x.sent) x.heard marks k);
+        }) has.file;
+  }
+
+  settles_so : (x : Studio) (progress : Progress) (old new : Over) (k k' : K) (settled : Settled) → Has x progress old
+      → SettlesKept opens closes remaining contents saves fails progress old new k k' (Ok settled)
+      → (marks : Marks) × SettlesAs x new.sender.server (kept_of progress new.sender.server) marks
+      × AreTold old.sender.server marks settled.codes.items
+  settles_so x progress old new k k' settled has (a, saved) = (
+    a.marks,
+    told_so x progress old new has a.marks
+        (over_so x progress old new has a.ended ConnectionFailed a.marks (Ok settled.tries) a.delivers),
+    a.told,
+  )
+
+  tells_so : (x : Studio) (server : ServerState) (marks : Marks) (codes : List Code) (ks : List ℕ)
+      → AreTold server marks codes → counters_waiting server ≡ map counter_of ks → AllByRecursion (IsUntold x) ks
+      → map Some codes ≡ map (λ k. option_or (x.told k) (heard_with (length x.sent) x.heard marks k)) ks
+  tells_so x server marks codes ks told counters untold =
+      told ∙ ap (map (λ c. code_under c marks)) counters ∙ by_number ks untold
+    where
+      one : (b : Bool) (was heard : Option Code) (c : Option Code) → b ≡ true → was ≡ None → heard ≡ None
+          → c ≡ option_or was (cond b (option_or heard c) heard)
+      one true None None c is unheard untold = refl
+      one false was heard c is unheard untold = absurd (false≢true is)
+      one true (Some d) heard c is unheard untold = absurd (cc)
+      one true None (Some d) c is unheard untold = absurd (cc)
+
+      by_number : (ks : List ℕ) → AllByRecursion (IsUntold x) ks
+          → map (λ c. code_under c marks) (map counter_of ks)
+          ≡ map (λ k. option_or (x.told k) (heard_with (length x.sent) x.heard marks k)) ks
+      by_number [] all = refl
+      by_number (k ∷ ks) all =
+          ap (λ (c : Option Code). c ∷ map (λ c. code_under c marks) (map counter_of ks))
+          (one (is_of_last (length x.sent) k) (x.told k) (x.heard k) (code_under (counter_of k) marks) all.0.of_last
+          all.0.untold all.0.unheard)
+          ∙ ap (λ (cs : List (Option Code)).
+          option_or (x.told k) (heard_with (length x.sent) x.heard marks k) ∷ cs) (by_number ks all.1)
+
+  settles_not_so : (x : Studio) (progress : Progress) (old new : Over) (k k' : K) (reason : Reason)
+      → Has x progress old
+      → SettlesKept opens closes remaining contents saves fails progress old new k k' (Err (Outstanding reason))
+      → (marks : Marks) × SettlesAs x new.sender.server (kept_of progress new.sender.server) marks
+  settles_not_so x progress old new k k' reason has (g, saved) = (
+    g.marks,
+    told_so x progress old new has g.marks
+        (over_so x progress old new has g.ended ConnectionFailed g.marks (Err reason) g.delivers),
+  )
+
+  -- ---- a crash
+
+  crash_as_it_was : (x : Studio) (left : KeptServer) → left ≡ x.file → CrashesAs x left
+  crash_as_it_was x left is = record {
+    over = [];
+    on = tt;
+    saved = false;
+    leads = ap (λ (file : KeptServer). record x {
+      server = going_on x.server.address file;
+      file = file;
+      heard = λ k. None;
+    }) (sym is);
+  }
+
+  crash_saved : (x : Studio) (progress : Progress) (old new : Over) → Has x progress old → (left : KeptServer)
+      → left ≡ kept_of progress new.sender.server → Went x new → CrashesAs x left
+  crash_saved x progress old new has left is went = record {
+    over = went.over.events;
+    on = went.over.on;
+    saved = true;
+    leads = runs_on x went.over.events (StudioCrashes true ∷ [])
+        ∙ ap (λ (y : Studio). studio_after y (StudioCrashes true)) went.over.leads
+        ∙ ap (λ (file : KeptServer). restarted new.sender.server.address (kept_of (progress_in file) new.sender.server))
+        has.file
+        ∙ ap (λ (a : ℕ). restarted a (kept_of progress new.sender.server)) went.address
+        ∙ ap (restarted x.server.address) (sym is);
+  }
+    where
+      restarted : ℕ → KeptServer → Studio
+      restarted a file = record x { server = going_on a file; file = file; heard = λ k. None }
+
+  crashes_so : (x : Studio) (progress : Progress) (old new : Over) (k k' : K) (ended : Ended) (left : KeptServer)
+      → Has x progress old → SettlesKept opens closes remaining contents saves fails progress old new k k' ended
+      → Outlives progress old.sender.server new.sender.server left → CrashesAs x left
+  crashes_so x progress old new k k' ended left has settles (inl is) = crash_as_it_was x left (is ∙ sym has.file)
+  crashes_so x progress old new k k' ended left has settles (inr is) =
+      crash_saved x progress old new has left is (kept_went x progress old new has k k' ended settles)
+
   -- ---- a batch
 
   taken_so : (s : Over) (batch : List (List ℕ))
@@ -248,185 +396,54 @@ module _ {C I O K : Type 0} (opens : C → Option (I × O) → C → Type 0) (cl
   taken_so s [] = refl
   taken_so s (m ∷ batch) = taken_so (submitted_to s m) batch
 
-  module _ (x : Studio) (progress : Progress) (old new : Over) (batch : List (List ℕ))
-      (same : x.server ≡ old.sender.server) (file : x.file ≡ kept_of progress old.sender.server) where
-    abbrev after : Progress
-    after = taking progress (length batch)
+  takes_so : (x : Studio) (progress : Progress) (old : Over) (batch : List (List ℕ)) → Has x progress old
+      → Has (studio_after x (TakesLines batch)) (taking progress (length batch)) (submitted_all old batch)
+  takes_so x progress old batch has =
+      let server : submitted_each x.server batch ≡ (submitted_all old batch).sender.server =
+      ap (λ (s : ServerState). submitted_each s batch) has.server ∙ sym (taken_so old batch) in
+      record {
+        server = server;
+        file = ap (λ (file : KeptServer). kept_of (taking (progress_in file) (length batch))
+            (submitted_each x.server batch)) has.file
+            ∙ ap (kept_of (taking progress (length batch))) server;
+      }
 
-    abbrev sent_to : ServerState
-    sent_to = (submitted_all old batch).sender.server
+  sends_so : (progress : Progress) (old new : Over) (k k' : K) (settled : Settled)
+      → SendsKept opens closes remaining contents saves fails progress old new k k' (Ok settled)
+      → (between : K) × SettlesKept opens closes remaining contents saves fails progress old new between k' (Ok settled)
+  sends_so progress old new k k' settled (inl (between, saved, settles)) = (between, settles)
+  sends_so progress old new k k' settled (inr (is, stays, failed)) = absurd (not_failed (Ok settled) refl is)
 
-    -- once the lines are taken
-    abbrev begun : Studio
-    begun = record x { server = sent_to; file = kept_of after sent_to; sent = x.sent ++ batch }
-
-    begun_is : studio_after x (TakesLines batch) ≡ begun
-    begun_is =
-        let server : submitted_each x.server batch ≡ sent_to =
-        ap (λ (s : ServerState). submitted_each s batch) same ∙ sym (taken_so old batch) in
-        ap (λ (k : KeptServer). record x {
-          server = submitted_each x.server batch;
-          file = kept_of (taking (progress_in k) (length batch)) (submitted_each x.server batch);
-          sent = x.sent ++ batch;
-        }) file
-        ∙ ap (λ (s : ServerState). record x { server = s; file = kept_of after s; sent = x.sent ++ batch }) server
-
-    -- what waited went over connections
-    over_so : (ended : ℕ) (before : Reason) (marks : Marks) (result : Result ℕ Reason)
-        → Delivers opens closes remaining contents ended before (submitted_all old batch) new [] marks result
-        → GoesOver begun new.sender.server marks
-    over_so ended before marks result delivers =
-        let (more, are, over) =
-        delivers_goes ended before (submitted_all old batch) new [] marks result delivers begun refl in
-        subst (GoesOver begun new.sender.server) (sym are) over
-
-    told_so : (marks : Marks) → GoesOver begun new.sender.server marks
-        → SendsAs x batch new.sender.server (kept_of after new.sender.server) marks
-    told_so marks over = record {
-      over = over.events;
-      on = over.on;
-      leads = ap (λ (y : Studio). run_studio y (over.events ++ Tells ∷ [])) begun_is
-          ∙ runs_on begun over.events (Tells ∷ []) ∙ ap (λ (y : Studio). studio_after y Tells) over.leads;
-    }
-
-    -- a crash
-    crash_at_first : (left : KeptServer) → left ≡ kept_of progress old.sender.server → CrashesAs x batch left
-    crash_at_first left is = record {
-      events = StudioCrashes false ∷ [];
-      at = (refl, tt);
-      file = file ∙ sym is;
-      server = ap (going_on x.server.address) (file ∙ sym is);
-      sent = inl refl;
-      told = refl;
-    }
-
-    crash_taken : (left : KeptServer) → left ≡ kept_of after sent_to → CrashesAs x batch left
-    crash_taken left is =
-        let so = begun_is in record {
-          events = TakesLines batch ∷ StudioCrashes false ∷ [];
-          at = (refl, (refl, tt));
-          file = ap (λ (y : Studio). y.file) so ∙ sym is;
-          server = at_address (ap (λ (y : Studio). y.file) so ∙ sym is);
-          sent = inr refl;
-          told = refl;
-        }
-      where
-        address_stays : (s : ServerState) (ms : List (List ℕ)) → (submitted_each s ms).address ≡ s.address
-        address_stays s [] = refl
-        address_stays s (m ∷ ms) = address_stays (submitted s m) ms
-
-        at_address : (studio_after x (TakesLines batch)).file ≡ left
-            → going_on (studio_after x (TakesLines batch)).server.address (studio_after x (TakesLines batch)).file
-            ≡ going_on x.server.address left
-        at_address is = ap (λ (a : ℕ). going_on a (studio_after x (TakesLines batch)).file) (address_stays x.server
-            batch)
-            ∙ ap (going_on x.server.address) is
-
-    address_of : (s : ServerState) (ms : List (List ℕ)) → (submitted_each s ms).address ≡ s.address
-    address_of s [] = refl
-    address_of s (m ∷ ms) = address_of (submitted s m) ms
-
-    -- what went, however it ended
-    record Went : Type 0 where
-      marks : Marks
-      over : GoesOver begun new.sender.server marks
-      address : new.sender.server.address ≡ x.server.address
-
-    begun_address : sent_to.address ≡ x.server.address
-    begun_address =
-        ap (λ (s : ServerState). s.address) (taken_so old batch) ∙ address_of old.sender.server batch
-        ∙ ap (λ (s : ServerState). s.address) (sym same)
-
-    acknowledged_went : (settled : Settled)
-        → Acknowledges opens closes remaining contents (submitted_all old batch) new settled → Went
-    acknowledged_went settled a = record {
-      marks = a.marks;
-      over = over_so a.ended ConnectionFailed a.marks
-          (Ok settled.tries) a.delivers;
-      address = ap (λ (s : ServerState). s.address) a.freed ∙ begun_address;
-    }
-
-    given_up_went : (reason : Reason)
-        → GivesUp opens closes remaining contents (submitted_all old batch) new reason → Went
-    given_up_went reason g = record {
-      marks = g.marks;
-      over = over_so g.ended ConnectionFailed g.marks
-          (Err reason) g.delivers;
-      address = g.wait.1 ∙ begun_address;
-    }
-
-    settles_went : (result : Result Settled Reason)
-        → Settles opens closes remaining contents (submitted_all old batch) new result → Went
-    settles_went (Ok settled) a = acknowledged_went settled a
-    settles_went (Err reason) g = given_up_went reason g
-
-    kept_went : (k k' : K) (ended : Ended)
-        → SettlesKept opens closes remaining contents saves fails after (submitted_all old batch) new k k' ended → Went
-    kept_went k k' (Ok settled) (a, saved) = acknowledged_went settled a
-    kept_went k k' (Err (Outstanding reason)) (g, saved) = given_up_went reason g
-    kept_went k k' (Err StateFailed) (result, settles, failed) = settles_went result settles
-
-    crash_later : (left : KeptServer) → left ≡ kept_of after new.sender.server → Went → CrashesAs x batch left
-    crash_later left is went =
-        let ends : run_studio x (TakesLines batch ∷ (went.over.events ++ StudioCrashes true ∷ []))
-        ≡ studio_after (record begun {
-          server = new.sender.server;
-          heard = heard_with (length (x.sent ++ batch)) x.heard went.marks;
-        }) (StudioCrashes true) =
-        ap (λ (y : Studio). run_studio y (went.over.events ++ StudioCrashes true ∷ [])) begun_is
-        ∙ runs_on begun went.over.events (StudioCrashes true ∷ [])
-        ∙ ap (λ (y : Studio). studio_after y (StudioCrashes true)) went.over.leads in
-        record {
-          events = TakesLines batch ∷ (went.over.events ++ StudioCrashes true ∷ []);
-          at = (
-            refl,
-            all_events (λ event. is_at_studio event ≡ true) went.over.events (StudioCrashes true ∷ [])
-                (all_at went.over.events went.over.on) (refl, tt),
-          );
-          file = ap (λ (y : Studio). y.file) ends ∙ sym is;
-          server = ap (λ (y : Studio). y.server) ends
-              ∙ ap (λ (a : ℕ). going_on a (kept_of after new.sender.server)) went.address
-              ∙ ap (going_on x.server.address) (sym is);
-          sent = inr (ap (λ (y : Studio). y.sent) ends);
-          told = ap (λ (y : Studio). y.told) ends;
-        }
-
-    sends_so : (k k' : K) (settled : Settled)
-        → SendsKept opens closes remaining contents saves fails after (submitted_all old batch) new k k' (Ok settled)
-        → (marks : Marks) × SendsAs x batch new.sender.server (kept_of after new.sender.server) marks
-        × AreTold sent_to marks settled.codes.items
-    sends_so k k' settled (inl (between, saved, (a, saved'))) =
-        (a.marks, told_so a.marks (over_so a.ended ConnectionFailed a.marks (Ok settled.tries) a.delivers), a.told)
-    sends_so k k' settled (inr (is, stays, failed)) = absurd (not_failed (Ok settled) refl is)
-
-    gives_up_so : (k k' : K) (reason : Reason)
-        → SendsKept opens closes remaining contents saves fails after (submitted_all old batch) new k k'
-        (Err (Outstanding reason))
-        → (marks : Marks) × SendsAs x batch new.sender.server (kept_of after new.sender.server) marks
-    gives_up_so k k' reason (inl (between, saved, (g, saved'))) =
-        (g.marks, told_so g.marks (over_so g.ended ConnectionFailed g.marks (Err reason) g.delivers))
-    gives_up_so k k' reason (inr (is, stays, failed)) = absurd (not_failed (Err (Outstanding reason)) refl is)
-
-    crashes_so : (k k' : K) (ended : Ended) (left : KeptServer)
-        → SendsKept opens closes remaining contents saves fails after (submitted_all old batch) new k k' ended
-        → OutlivesBatch progress after old (submitted_all old batch) new left → CrashesAs x batch left
-    crashes_so k k' ended left sends (inl (is, none)) = crash_at_first left is
-    crashes_so k k' ended left sends (inr (inl is)) = crash_taken left is
-    crashes_so k k' ended left (inl (between, saved, settles)) (inr (inr is)) =
-        crash_later left is (kept_went between k' ended settles)
-    crashes_so k k' ended left (inr (is, stays, failed)) (inr (inr now)) =
-        crash_taken left (now ∙ ap (λ (s : Over). kept_of after s.sender.server) stays)
+  crashes_sending_so : (x : Studio) (progress : Progress) (old new : Over) (batch : List (List ℕ)) (k k' : K)
+      (ended : Ended) (left : KeptServer) → Has x progress old
+      → SendsKept opens closes remaining contents saves fails (taking progress (length batch)) (submitted_all old batch)
+      new k k' ended
+      → OutlivesBatch progress (taking progress (length batch)) old (submitted_all old batch) new left
+      → CrashesAs x left ⊎ CrashesAs (studio_after x (TakesLines batch)) left
+  crashes_sending_so x progress old new batch k k' ended left has sends (inl (is, none)) =
+      inl (crash_as_it_was x left (is ∙ sym has.file))
+  crashes_sending_so x progress old new batch k k' ended left has (inl (between, saved, settles)) (inr out) =
+      inr (crashes_so (studio_after x (TakesLines batch)) (taking progress (length batch)) (submitted_all old batch) new
+      between k' ended left (takes_so x progress old batch has) settles out)
+  crashes_sending_so x progress old new batch k k' ended left has (inr (is, stays, failed)) (inr (inl out)) =
+      inr (crash_as_it_was (studio_after x (TakesLines batch)) left
+      (out ∙ sym (takes_so x progress old batch has).file))
+  crashes_sending_so x progress old new batch k k' ended left has (inr (is, stays, failed)) (inr (inr out)) =
+      inr (crash_as_it_was (studio_after x (TakesLines batch)) left
+      (out ∙ ap (λ (s : Over). kept_of (taking progress (length batch)) s.sender.server) stays
+      ∙ sym (takes_so x progress old batch has).file))
 
   pub studio_does_lem : StudioDoes opens closes remaining contents saves fails
   studio_does_lem = record {
     delivers = λ x ended before old new marks marks' result same delivers.
         delivers_goes ended before old new marks marks' result delivers x same;
-    sends = λ x progress old new batch k k' settled same file sends.
-        sends_so x progress old new batch same file k k' settled sends;
-    gives_up = λ x progress old new batch k k' reason same file sends.
-        gives_up_so x progress old new batch same file k k' reason sends;
-    crashes = λ x progress old new batch k k' ended left same file sends out.
-        crashes_so x progress old new batch same file k k' ended left sends out;
+    settles = settles_so;
+    tells = tells_so;
+    settles_not = settles_not_so;
+    crashes = crashes_so;
+    takes = takes_so;
+    sends = sends_so;
+    crashes_sending = crashes_sending_so;
   }
 
 -- ---- the days of an encoder

@@ -67,3 +67,4 @@ pub mod Happening
 pub mod OverLines
 pub mod BatchRuns
 pub mod RunMessages
+pub mod RunEvents

@@ -1,20 +1,29 @@
 -- What the calls do that the program makes, as events of both ends and the bytes between them. Source: profile.
-use Rattle.std.specs.Prelude.{◌≡◌, ◌⊎◌, ℕ, true, false, List, [], ◌∷◌, ◌++◌, length, Option, Result, Ok, Err}
+use Rattle.std.specs.Prelude.{◌≡◌, ◌⊎◌, ℕ, true, false, List, [], ◌∷◌, ◌++◌, length, map, Bool, Option, Some, None}
+use Rattle.std.specs.Prelude.{Result, Ok, Err}
 use Rattle.std.specs.Option.{option_or}
 use Rattle.std.specs.List.{AllByRecursion}
+use Rattle.uecp_elements.specs.declared.code.Code.{Code}
 use Rattle.uecp_encoder.specs.Target.{Step, Taken}
 use Rattle.uecp_encoder.specs.State.{EncoderState}
-use Rattle.uecp_link.specs.Server.{ServerState}
+use Rattle.uecp_link.specs.Counters.{counter_of}
+use Rattle.uecp_link.specs.Server.{ServerState, counters_waiting}
 use Rattle.uecp_net.specs.declared.sender.Outstanding.{Outstanding as Reason}
 use Rattle.uecp_net.specs.declared.sender.Settled.{Settled}
 use Rattle.uecp_net.specs.declared.saved.keep.Progress.{Progress}
 use Rattle.uecp_net.specs.declared.saved.batch.KeptOutstanding.TheVariants.{Outstanding}
 use Rattle.uecp_net.specs.Sending.{SenderOver, Marks, Delivers, AreTold, submitted_all}
-use Rattle.uecp_net.specs.Keeping.{KeptServer, kept_of, going_on, taking}
-use Rattle.uecp_net.specs.SavedSending.{Ended, SendsKept, OutlivesBatch}
+use Rattle.uecp_net.specs.Keeping.{KeptServer, IsKept, kept_of, going_on, taking}
+use Rattle.uecp_net.specs.SavedSending.{Ended, SettlesKept, SendsKept, Outlives, OutlivesBatch}
+use Rattle.kept_jobs.specs.Stops.{Went}
+use Rattle.line_batches.specs.declared.taking.After.{After}
+use Rattle.line_batches.specs.declared.taking.After.TheVariants.{GoesOn}
+use Rattle.sending.specs.declared.options.LiveOptions.{LiveOptions}
+use Rattle.sending.specs.Run.{Live, RunsOn, run_of}
+use Rattle.promises.specs.Taken.{AreBatches}
 use Rattle.promises.specs.DeviceLives.{DeviceEvent, Deed, DeviceLives}
-use Rattle.promises.specs.Ends.{Studio, Transmitter, EndEvent, TakesLines, Dials, Writes, Hears, Tells}
-use Rattle.promises.specs.Ends.{is_at_studio, heard_with, run_studio, run_transmitter}
+use Rattle.promises.specs.Ends.{Studio, Transmitter, EndEvent, TakesLines, Dials, Writes, Hears, Tells, StudioCrashes}
+use Rattle.promises.specs.Ends.{is_at_studio, is_of_last, heard_with, studio_after, run_studio, run_transmitter}
 
 -- ---- At the studio.
 
@@ -35,62 +44,125 @@ pub record GoesOver (x : Studio) (server : ServerState) (marks : Marks) : Type 0
     heard = heard_with (length x.sent) x.heard marks;
   }
 
--- Lines were taken, and what waited went over connections, and was told: so the server and its file became these, and
--- by the marks that came the codes were heard that were told.
-pub record SendsAs (x : Studio) (batch : List (List ℕ)) (server : ServerState) (file : KeptServer) (marks : Marks) :
-    Type
-    0 where
+-- What waited went over connections, and was saved and told: so the server and its file became these, and by the marks
+-- that came the codes were heard that were told.
+pub record SettlesAs (x : Studio) (server : ServerState) (file : KeptServer) (marks : Marks) : Type 0 where
   pub over : List EndEvent
   pub on : AllByRecursion IsOnConnection over
-  pub leads : let heard = heard_with (length (x.sent ++ batch)) x.heard marks in
-      run_studio x (TakesLines batch ∷ (over ++ Tells ∷ [])) ≡ record {
+  pub leads : let heard = heard_with (length x.sent) x.heard marks in
+      run_studio x (over ++ Tells ∷ []) ≡ record x {
         server = server;
         file = file;
-        sent = x.sent ++ batch;
         heard = heard;
         told = λ k. option_or (x.told k) (heard k);
       }
 
--- It crashed within that, and goes on from this file: before the lines were in it; or once they were, with more of it
--- done or not; or behind one more save.
-pub record CrashesAs (x : Studio) (batch : List (List ℕ)) (left : KeptServer) : Type 0 where
-  pub events : List EndEvent
-  pub at : AllByRecursion (λ event. is_at_studio event ≡ true) events
-  pub file : (run_studio x events).file ≡ left
-  pub server : (run_studio x events).server ≡ going_on x.server.address left
-  pub sent : ((run_studio x events).sent ≡ x.sent) ⊎ ((run_studio x events).sent ≡ x.sent ++ batch)
-  pub told : (run_studio x events).told ≡ x.told
+-- It crashed within that, with what went over connections done or not, perhaps behind the save; and goes on from this
+-- file.
+pub record CrashesAs (x : Studio) (left : KeptServer) : Type 0 where
+  pub over : List EndEvent
+  pub on : AllByRecursion IsOnConnection over
+  pub saved : Bool
+  pub leads : run_studio x (over ++ StudioCrashes saved ∷ []) ≡ record x {
+    server = going_on x.server.address left;
+    file = left;
+    heard = λ k. None;
+  }
 
--- Law: whatever `Delivers` says of connections, and `SendsKept` and `OutlivesBatch` of a call of `send_kept` (the
--- clauses of `uecp_net` by which the program sends), is done by such events of a studio that has that server and file;
--- and what is told is the code of the first mark under each counter.
+-- A number is of the last eight, and nothing was heard or told of it.
+pub record IsUntold (x : Studio) (k : ℕ) : Type 0 where
+  pub of_last : is_of_last (length x.sent) k ≡ true
+  pub unheard : x.heard k ≡ None
+  pub untold : x.told k ≡ None
+
+-- Law: whatever `Delivers` says of connections, and `SettlesKept`, `SendsKept` and what they leave of calls of
+-- `settle_kept` and `send_kept` (the clauses of `uecp_net` by which the program sends), is done by such events of a
+-- studio that has that server and file: where a batch is sent, behind the event that its lines are taken; and what is
+-- told is the code of the first mark under each counter.
 module _ {C I O K : Type 0} (opens : C → Option (I × O) → C → Type 0) (closes : C → I → O → C → Type 0)
     (remaining : I → Option (List ℕ)) (contents : O → Option (List ℕ)) (saves fails : K → KeptServer → K → Type 0) where
+  -- A studio has a sender's server, and what is kept of it.
+  pub record HasServer (x : Studio) (progress : Progress) (s : SenderOver C I O) : Type 0 where
+    pub server : x.server ≡ s.sender.server
+    pub file : x.file ≡ kept_of progress s.sender.server
+
   pub record StudioDoes : Type 0 where
     pub delivers : (x : Studio) (ended : ℕ) (before : Reason) (old new : SenderOver C I O) (marks marks' : Marks)
         (result : Result ℕ Reason) → x.server ≡ old.sender.server
         → Delivers opens closes remaining contents ended before old new marks marks' result
         → (more : Marks) × (marks' ≡ marks ++ more) × GoesOver x new.sender.server more
-    pub sends : (x : Studio) (progress : Progress) (old new : SenderOver C I O) (batch : List (List ℕ)) (k k' : K)
-        (settled : Settled) → x.server ≡ old.sender.server → x.file ≡ kept_of progress old.sender.server
-        → SendsKept opens closes remaining contents saves fails (taking progress (length batch))
-        (submitted_all old batch) new k k' (Ok settled)
-        → (marks : Marks)
-        × SendsAs x batch new.sender.server (kept_of (taking progress (length batch)) new.sender.server) marks
-        × AreTold (submitted_all old batch).sender.server marks settled.codes.items
-    pub gives_up : (x : Studio) (progress : Progress) (old new : SenderOver C I O) (batch : List (List ℕ)) (k k' : K)
-        (reason : Reason) → x.server ≡ old.sender.server → x.file ≡ kept_of progress old.sender.server
-        → SendsKept opens closes remaining contents saves fails (taking progress (length batch))
-        (submitted_all old batch) new k k' (Err (Outstanding reason))
-        → (marks : Marks)
-        × SendsAs x batch new.sender.server (kept_of (taking progress (length batch)) new.sender.server) marks
-    pub crashes : (x : Studio) (progress : Progress) (old new : SenderOver C I O) (batch : List (List ℕ)) (k k' : K)
-        (ended : Ended) (left : KeptServer) → x.server ≡ old.sender.server
-        → x.file ≡ kept_of progress old.sender.server
+    pub settles : (x : Studio) (progress : Progress) (old new : SenderOver C I O) (k k' : K) (settled : Settled)
+        → HasServer x progress old
+        → SettlesKept opens closes remaining contents saves fails progress old new k k' (Ok settled)
+        → (marks : Marks) × SettlesAs x new.sender.server (kept_of progress new.sender.server) marks
+        × AreTold old.sender.server marks settled.codes.items
+    -- by numbers: where those of what waits are of the last eight, and nothing was heard or told of them, that they are
+    -- told these codes is what the studio then told
+    pub tells : (x : Studio) (server : ServerState) (marks : Marks) (codes : List Code) (ks : List ℕ)
+        → AreTold server marks codes → counters_waiting server ≡ map counter_of ks → AllByRecursion (IsUntold x) ks
+        → map Some codes ≡ map (λ k. option_or (x.told k) (heard_with (length x.sent) x.heard marks k)) ks
+    pub settles_not : (x : Studio) (progress : Progress) (old new : SenderOver C I O) (k k' : K) (reason : Reason)
+        → HasServer x progress old
+        → SettlesKept opens closes remaining contents saves fails progress old new k k' (Err (Outstanding reason))
+        → (marks : Marks) × SettlesAs x new.sender.server (kept_of progress new.sender.server) marks
+    pub crashes : (x : Studio) (progress : Progress) (old new : SenderOver C I O) (k k' : K) (ended : Ended)
+        (left : KeptServer) → HasServer x progress old
+        → SettlesKept opens closes remaining contents saves fails progress old new k k' ended
+        → Outlives progress old.sender.server new.sender.server left → CrashesAs x left
+    -- a batch: its lines are taken, and then what waits is settled
+    pub takes : (x : Studio) (progress : Progress) (old : SenderOver C I O) (batch : List (List ℕ))
+        → HasServer x progress old
+        → HasServer (studio_after x (TakesLines batch)) (taking progress (length batch)) (submitted_all old batch)
+    pub sends : (progress : Progress) (old new : SenderOver C I O) (k k' : K) (settled : Settled)
+        → SendsKept opens closes remaining contents saves fails progress old new k k' (Ok settled)
+        → (between : K) × SettlesKept opens closes remaining contents saves fails progress old new between k'
+        (Ok settled)
+    pub crashes_sending : (x : Studio) (progress : Progress) (old new : SenderOver C I O) (batch : List (List ℕ))
+        (k k' : K) (ended : Ended) (left : KeptServer) → HasServer x progress old
         → SendsKept opens closes remaining contents saves fails (taking progress (length batch))
         (submitted_all old batch) new k k' ended
         → OutlivesBatch progress (taking progress (length batch)) old (submitted_all old batch) new left
-        → CrashesAs x batch left
+        → CrashesAs x left ⊎ CrashesAs (studio_after x (TakesLines batch)) left
+
+-- ---- A whole run at the studio, behind its beginning.
+
+-- Events at the studio lead to this server and file, and these lines more were taken.
+pub record RunsAs (x : Studio) (lines : List (List ℕ)) (server : ServerState) (file : KeptServer) : Type 0 where
+  pub events : List EndEvent
+  pub at : AllByRecursion (λ event. is_at_studio event ≡ true) events
+  pub server_is : (run_studio x events).server ≡ server
+  pub file_is : (run_studio x events).file ≡ file
+  pub sent : (run_studio x events).sent ≡ x.sent ++ lines
+
+-- The lines of batches, one behind another.
+abbrev pub lines_of : List (List (List ℕ)) → List (List ℕ)
+lines_of [] = []
+lines_of (batch ∷ batches) = batch ++ lines_of batches
+
+-- Law: a run of `send`, once its encoder was joined or has not to be (`RunsOn`), however it ended, is such events of a
+-- studio that has the server and the file with which it begins: of the batches that it took, one after another; and
+-- whatever a crash leaves of it is the file behind such events, with some first of these lines taken.
+module _ {T C I O K : Type 0} (takes : (size : ℕ) → (messages : List (List ℕ)) → After → T → T → Type 0)
+    (opens : C → Option (I × O) → C → Type 0) (closes : C → I → O → C → Type 0)
+    (remaining : I → Option (List ℕ)) (contents : O → Option (List ℕ)) (leaves : K → KeptServer → Type 0)
+    (is_clean : K → Type 0) (saves fails : K → KeptServer → K → Type 0) where
+  pub record RunIsEvents (options : LiveOptions) (u : Studio) (x x' : Live T (SenderOver C I O) K) (went : Went) : Type
+      0 where
+    pub batches : List (List (List ℕ))
+    pub are : AreBatches (takes options.reading.size) batches x.takes x'.takes
+    pub done : went ≡ Ok tt → RunsAs u (lines_of batches) x'.sends.runs.sender.server
+        (kept_of x'.sends.progress x'.sends.runs.sender.server)
+    pub crashes : IsKept (leaves x.sends.keeper) x.sends.progress x.sends.runs.sender.server
+        → is_clean x'.sends.keeper → (left : KeptServer) → leaves x'.sends.keeper left
+        → (some : List (List ℕ)) × (more : List (List ℕ)) × (lines_of batches ≡ some ++ more)
+        × RunsAs u some (going_on u.server.address left) left
+
+  abbrev pub RunsAreEvents : Type 0
+  RunsAreEvents =
+      (options : LiveOptions) (u : Studio) (x x' : Live T (SenderOver C I O) K) (went : Went)
+      → u.server ≡ x.sends.runs.sender.server → u.file ≡ kept_of x.sends.progress x.sends.runs.sender.server
+      → RunsOn takes opens closes remaining contents leaves is_clean saves fails (run_of options) GoesOn x x' went
+      → RunIsEvents options u x x' went
 
 -- ---- At the transmitter.
 

@@ -2,10 +2,11 @@
 //! by connection. A law over whatever happens at either end; and laws by which the calls that the program makes do just
 //! that. No code.
 ghost use Rattle.promises.specs.EachLine.{EachLineOnce, EachLineOnceOverStretches, EachEndIsItsOwn};
-ghost use Rattle.promises.specs.Doings.{StudioDoes, DaysAreEndEvents};
+ghost use Rattle.promises.specs.Doings.{StudioDoes, RunsAreEvents, DaysAreEndEvents};
 ghost use Rattle.promises.specs.Display.{EachLineIsShown};
 ghost use Rattle.promises.specs.Histories.{FourHistories};
 
+use sending::Source;
 use uecp_encoder::{Keep, Target};
 use uecp_net::{Connections, SavedServer};
 
@@ -40,19 +41,30 @@ pub fn each_line_is_shown()
 {}
 
 /// What an end comes to is what its own events make of it: the other one reaches it by bytes alone. So where a run of
-/// the studio does some events ([`studio_does`]), and one of the encoder some others ([`transmitter_does`]),
+/// the studio does some events ([`run_is_events`]), and one of the encoder some others ([`transmitter_does`]),
 /// [`each_line_once`] is of both, in whichever order they fell in which each byte was read behind its writing.
 pub fn each_end_is_its_own<T: Target>()
     ensures { EachEndIsItsOwn T.step T.taken }
 {}
 
-/// What the clauses of `uecp_net` say of a call of `send_kept`, and of the connections on which it sends, is done by
-/// such events, with the bytes that it wrote and read; what it tells of its batch is the code of the first mark under
-/// each counter; and what a crash leaves within it is its file behind such events and a crash.
+/// What the clauses of `uecp_net` say of calls of `settle_kept` and `send_kept`, and of the connections on which they
+/// send, is done by such events, with the bytes that were written and read; what is told of each message is what the
+/// studio then told under its number; and what a crash leaves within a call is the file behind such events and a crash.
 ///
 /// Its premise: the studio has the server and the file with which the call begins.
 pub fn studio_does<C: Connections, K: Keep<SavedServer>>()
     ensures { StudioDoes C.opens C.closes C.Input.remaining C.Output.contents K.saves K.fails }
+{}
+
+/// A run of [`run_live`](sending::run_live), however it ended, is such events, once its encoder was joined or has not
+/// to be (`RunsOn` of its clause, of one sender): of the batches that it took, one after another; and whatever a crash
+/// leaves of it is the file behind such events, with some first of these lines taken.
+///
+/// Its premises: the studio has the server and the file with which the run begins; and for a crash, that what was kept
+/// then is that server, and that of the keeper holds up to the end.
+pub fn run_is_events<S: Source, K: Keep<SavedServer>, C: Connections>()
+    ensures { (how : S.How) → RunsAreEvents (S.takes how) C.opens C.closes C.Input.remaining C.Output.contents K.leaves
+        K.is_clean K.saves K.fails }
 {}
 
 /// The days of an encoder are such events at its end. They are what the clauses of the calls come to that serve it:
