@@ -68,3 +68,4 @@ pub mod OverLines
 pub mod BatchRuns
 pub mod RunMessages
 pub mod RunEvents
+pub mod Joins

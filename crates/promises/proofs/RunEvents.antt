@@ -4,7 +4,7 @@ use Rattle.std.proofs.Common.{Err, refl, ap, sym, subst, ◌∙◌, inl, inr, �
 use Rattle.uecp_elements.specs.declared.code.Code.{Code}
 use Rattle.uecp_frame.specs.Findings.{Finding}
 use Rattle.uecp_frame.specs.Beyond.{found_beyond, open_beyond}
-use Rattle.uecp_link.specs.Server.{ServerState, acknowledges, freed, heard_finding, heard_findings, submitted}
+use Rattle.uecp_link.specs.Server.{ServerState, acknowledges, freed, heard, heard_finding, heard_findings, submitted}
 use Rattle.uecp_net.specs.declared.saved.keep.Progress.{Progress}
 use Rattle.uecp_net.specs.Sending.{SenderOver, submitted_all}
 use Rattle.uecp_net.specs.Keeping.{KeptServer, IsKept, kept_of, going_on, taking}
@@ -48,12 +48,15 @@ submitted_at : (s : ServerState) (ms : List (List ℕ)) → (submitted_each s ms
 submitted_at s [] = refl
 submitted_at s (m ∷ ms) = submitted_at (submitted s m) ms
 
+pub heard_at : (s : ServerState) (bytes : List ℕ) → (heard s bytes).address ≡ s.address
+heard_at s bytes =
+    findings_at (record s { part = open_beyond s.part bytes }) (found_beyond s.part bytes)
+
 event_at : (x : Studio) (event : EndEvent) → (studio_after x event).server.address ≡ x.server.address
 event_at x (TakesLines ms) = submitted_at x.server ms
 event_at x Dials = refl
 event_at x Writes = refl
-event_at x (Hears bytes) =
-    findings_at (record x.server { part = open_beyond x.server.part bytes }) (found_beyond x.server.part bytes)
+event_at x (Hears bytes) = heard_at x.server bytes
 event_at x Tells = refl
 event_at x (StudioCrashes false) = refl
 event_at x (StudioCrashes true) = refl

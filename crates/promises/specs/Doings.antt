@@ -5,7 +5,11 @@ use Rattle.std.specs.Option.{option_or}
 use Rattle.std.specs.List.{AllByRecursion}
 use Rattle.uecp_elements.specs.declared.code.Code.{Code}
 use Rattle.uecp_encoder.specs.Target.{Step, Taken}
-use Rattle.uecp_encoder.specs.State.{EncoderState}
+use Rattle.uecp_frame.specs.Findings.{Closed}
+use Rattle.uecp_encoder.specs.State.{EncoderState, fed}
+use Rattle.uecp_link.specs.Joining.{BringsBoth, IsOver}
+use Rattle.uecp_link.specs.Kept.{IsReady}
+use Rattle.uecp_net.specs.SavedJoining.{Joins}
 use Rattle.uecp_link.specs.Counters.{counter_of}
 use Rattle.uecp_link.specs.Server.{ServerState, counters_waiting}
 use Rattle.uecp_net.specs.declared.sender.Outstanding.{Outstanding as Reason}
@@ -23,7 +27,8 @@ use Rattle.sending.specs.Run.{Live, RunsOn, run_of}
 use Rattle.promises.specs.Taken.{AreBatches}
 use Rattle.promises.specs.DeviceLives.{DeviceEvent, Deed, DeviceLives}
 use Rattle.promises.specs.Ends.{Studio, Transmitter, EndEvent, TakesLines, Dials, Writes, Hears, Tells, StudioCrashes}
-use Rattle.promises.specs.Ends.{is_at_studio, is_of_last, heard_with, studio_after, run_studio, run_transmitter}
+use Rattle.promises.specs.Ends.{IsNewServer, is_at_studio, is_of_last, heard_with, studio_after, run_studio}
+use Rattle.promises.specs.Ends.{run_transmitter}
 
 -- ---- At the studio.
 
@@ -163,6 +168,28 @@ module _ {T C I O K : Type 0} (takes : (size : ℕ) → (messages : List (List �
       → u.server ≡ x.sends.runs.sender.server → u.file ≡ kept_of x.sends.progress x.sends.runs.sender.server
       → RunsOn takes opens closes remaining contents leaves is_clean saves fails (run_of options) GoesOn x x' went
       → RunIsEvents options u x x' went
+
+-- ---- A beginning anew.
+
+-- A server joined its encoder: on the last connection it read these bytes, which bring the replies to 81 and then FF.
+-- And where on that connection all is over, as `joined_over_a_line` of `uecp_link` says of one that keeps the order of
+-- each direction and loses nothing but its end, a stretch begins: the server is new, but for what it counted; the
+-- encoder, which got these bytes of the pass, is ready, with nothing open, and has its store as it was; and nothing is
+-- on its way.
+pub record JoinBegins {V C I O : Type 0} (step : Step V) (s s' : SenderOver C I O) : Type 0 where
+  pub read : List ℕ
+  pub brings : BringsBoth s.sender.server.address read
+  pub server : (e : EncoderState V) (got coming unread : List ℕ) → IsOver step e got coming read unread
+      → IsNewServer s.sender.server.address s'.sender.server
+  pub encoder : (e : EncoderState V) (got coming unread : List ℕ) → IsOver step e got coming read unread
+      → IsReady (fed step e got).ring × ((fed step e got).part ≡ Closed) × ((fed step e got).value ≡ e.value)
+      × (coming ≡ []) × (unread ≡ [])
+
+-- Law: so whatever `Joins` says (the clause by which the program joins) begins a stretch.
+abbrev pub JoinsBegin : {V C I O : Type 0} → Step V → (opens : C → Option (I × O) → C → Type 0)
+    → (closes : C → I → O → C → Type 0) → (remaining : I → Option (List ℕ)) → (contents : O → Option (List ℕ)) → Type 0
+JoinsBegin {V} {C} {I} {O} step opens closes remaining contents =
+    (s s' : SenderOver C I O) → Joins opens closes remaining contents s s' (Ok tt) → JoinBegins step s s'
 
 -- ---- At the transmitter.
 

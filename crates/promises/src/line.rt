@@ -2,7 +2,7 @@
 //! by connection. A law over whatever happens at either end; and laws by which the calls that the program makes do just
 //! that. No code.
 ghost use Rattle.promises.specs.EachLine.{EachLineOnce, EachLineOnceOverStretches, EachEndIsItsOwn};
-ghost use Rattle.promises.specs.Doings.{StudioDoes, RunsAreEvents, DaysAreEndEvents};
+ghost use Rattle.promises.specs.Doings.{StudioDoes, RunsAreEvents, JoinsBegin, DaysAreEndEvents};
 ghost use Rattle.promises.specs.Display.{EachLineIsShown};
 ghost use Rattle.promises.specs.Histories.{FourHistories};
 
@@ -65,6 +65,14 @@ pub fn studio_does<C: Connections, K: Keep<SavedServer>>()
 pub fn run_is_events<S: Source, K: Keep<SavedServer>, C: Connections>()
     ensures { (how : S.How) → RunsAreEvents (S.takes how) C.opens C.closes C.Input.remaining C.Output.contents K.leaves
         K.is_clean K.saves K.fails }
+{}
+
+/// A join begins a stretch: where on its last connection all is over, as
+/// [`joined_over_a_line`](uecp_link::laws::joined_over_a_line) says of one that keeps the order of each direction and
+/// loses nothing but its end, the server is new, the encoder is ready, with nothing open and its store as it was, and
+/// nothing is on its way. So the connection goes on as one that was just dialled.
+pub fn join_begins<T: Target, C: Connections>()
+    ensures { JoinsBegin T.step C.opens C.closes C.Input.remaining C.Output.contents }
 {}
 
 /// The days of an encoder are such events at its end. They are what the clauses of the calls come to that serve it:
