@@ -23,12 +23,11 @@ use Rattle.uecp_link.specs.Law.{World}
 use Rattle.uecp_link.specs.Kept.{IsReady}
 use Rattle.uecp_link.proofs.Public.{sent_le, acknowledged_are, let_go_is}
 use Rattle.uecp_net.specs.declared.saved.keep.Progress.{Progress}
-use Rattle.uecp_net.specs.Keeping.{KeptServer, taking}
-use Rattle.uecp_net.specs.Keeping.{kept_of as server_kept, going_on as server_going_on}
+use Rattle.uecp_net.specs.Keeping.{taking}
 use Rattle.promises.specs.Station.{Station, acknowledged_by, station_after, server_saved, server_saves, server_crashes}
 use Rattle.promises.specs.Station.{progress_in}
 use Rattle.promises.specs.DeviceLives.{Deed, Applies, TakesOne}
-use Rattle.promises.specs.Ends.{Ends, Studio, TakesLines, Dials, Writes, Tells, StudioCrashes}
+use Rattle.promises.specs.Ends.{Ends, Studio, SaysStation, AreTaken, TakesLines, Dials, Writes, Tells, StudioCrashes}
 use Rattle.promises.specs.Ends.{ends_after, written_on}
 use Rattle.promises.specs.Ends.{MayHappen, studio_after, submitted_each}
 use Rattle.promises.proofs.Reaching.{lawful_of}
@@ -40,7 +39,7 @@ use Rattle.promises.proofs.EndLists.{Sub, sub_all, sub_both, sub_behind, all_app
 use Rattle.promises.proofs.EndLists.{AreOnTheWay, some_on_the_way, more_on_the_way, missing_have}
 use Rattle.promises.proofs.EndFrames.{deed_at, frame_in, law_at, server_address_at}
 use Rattle.promises.proofs.EndReplies.{reply_in}
-use Rattle.promises.proofs.EndsMatch.{all_of, Comes, Matches, StudioMatches, nothing_there, nothing_open}
+use Rattle.promises.proofs.EndsMatch.{all_of, Comes, Matches, nothing_there, nothing_open}
 use Rattle.promises.proofs.EndsMatch.{some_in_time}
 
 comes_on : (address : ℕ) (sent : List (List ℕ)) (part : List ℕ) (coming frames : List (List ℕ))
@@ -144,7 +143,9 @@ module _ {V : Type 0} (step : Step V) (taken : Taken V) (e : EncoderState V) (be
       last = m.studio.last;
       held = m.studio.held;
       address = m.studio.address;
-      file = m.studio.file;
+      file_last = m.studio.file_last;
+      file_held = m.studio.file_held;
+      counted = m.studio.counted;
       sent = m.studio.sent;
       heard = m.studio.heard;
       told = m.studio.told;
@@ -246,15 +247,6 @@ module _ {V : Type 0} (step : Step V) (taken : Taken V) (e : EncoderState V) (be
       let law = lawful_of step taken e ready shut s.world acts h.now in
       acknowledged_are e.address s.world.encoder s.world.server s.world.once law.p law.q law.kept k
 
-  saved_file : (x : Studio) (s : Station V) → StudioMatches step taken e before ready shut x s
-      → server_kept (progress_in x.file) x.server ≡ server_kept (progress_in s.server_file) s.world.server
-  saved_file x s m =
-      ap (λ (file : KeptServer). server_kept (progress_in file) x.server) m.file
-      ∙ ap (λ (l : ℕ). kept_as l x.server.held) m.last ∙ ap (kept_as s.world.server.last) m.held
-    where
-      kept_as : ℕ → List Held → KeptServer
-      kept_as l hs = record { last = l; held = hs; taken = s.server_file.taken; joined = s.server_file.joined }
-
   pub tells_match : (x : Ends V) → M x → M (ends_after step taken x Tells)
   tells_match x m =
       let s : Station V = m.s in
@@ -273,7 +265,9 @@ module _ {V : Type 0} (step : Step V) (taken : Taken V) (e : EncoderState V) (be
           last = m.studio.last;
           held = m.studio.held;
           address = m.studio.address;
-          file = saved_file x.studio s m.studio;
+          file_last = λ saved. m.studio.last;
+          file_held = λ saved. m.studio.held;
+          counted = m.studio.counted;
           sent = m.studio.sent;
           heard = m.studio.heard;
           told = λ k code is. told_own k (x.studio.told k) refl code is;
@@ -305,16 +299,24 @@ module _ {V : Type 0} (step : Step V) (taken : Taken V) (e : EncoderState V) (be
       told_own k (Some c) is code then_ = m.studio.told k code (is ∙ then_)
 
   -- it goes on from a file that is that of the line
+  record IsRestarted (x : Studio) (saved : Bool) (s : Station V) : Type 0 where
+    last : (studio_after x (StudioCrashes saved)).server.last ≡ s.server_file.last
+    held : (studio_after x (StudioCrashes saved)).server.held ≡ s.server_file.held
+    address : (studio_after x (StudioCrashes saved)).server.address ≡ x.server.address
+    part : (studio_after x (StudioCrashes saved)).server.part ≡ Closed
+    file_last : (studio_after x (StudioCrashes saved)).file.last ≡ s.server_file.last
+    file_held : (studio_after x (StudioCrashes saved)).file.held ≡ s.server_file.held
+    counted : (studio_after x (StudioCrashes saved)).file.taken + (studio_after x (StudioCrashes saved)).station
+        ≡ s.server_file.taken
+    sent : (studio_after x (StudioCrashes saved)).sent ≡ x.sent
+    heard_none : (k : ℕ) → (studio_after x (StudioCrashes saved)).heard k ≡ None
+    told : (k : ℕ) → (studio_after x (StudioCrashes saved)).told k ≡ x.told k
+
   restarts_so : (x : Ends V) (m : M x) (saved : Bool) (s : Station V) → Backed step taken e before ready shut s m.acts
-      → s.world ≡ m.s.world
-      → (studio_after x.studio (StudioCrashes saved)).file ≡ s.server_file
-      → (studio_after x.studio (StudioCrashes saved)).server ≡ server_going_on x.studio.server.address s.server_file
-      → (studio_after x.studio (StudioCrashes saved)).sent ≡ x.studio.sent
-      → ((k : ℕ) → (studio_after x.studio (StudioCrashes saved)).heard k ≡ None)
-      → ((k : ℕ) → (studio_after x.studio (StudioCrashes saved)).told k ≡ x.studio.told k)
+      → s.world ≡ m.s.world → IsRestarted x.studio saved s
       → ((k : ℕ) → acknowledged_by s.server_file.held (length s.world.once.sent) k ≡ true → k < m.in_time.top)
       → M (ends_after step taken x (StudioCrashes saved))
-  restarts_so x m saved s h world file server sent heard_none told shows =
+  restarts_so x m saved s h world r shows =
       let s1 : Station V = server_crashes e.address s in
       record {
         s = s1;
@@ -326,14 +328,16 @@ module _ {V : Type 0} (step : Step V) (taken : Taken V) (e : EncoderState V) (be
         lived = m.lived;
         deeds = m.deeds ∙ ap (λ (w : World V). map (deed_at w.once.sent) m.acts) (sym world);
         studio = record {
-          last = ap (λ (y : ServerState). y.last) server;
-          held = ap (λ (y : ServerState). y.held) server;
-          address = ap (λ (y : ServerState). y.address) server ∙ m.studio.address;
-          file = file;
-          sent = sent ∙ m.studio.sent ∙ ap (λ (w : World V). w.once.sent) (sym world);
-          heard = λ k code is. absurd (nothing code (sym (heard_none k) ∙ is));
+          last = r.last;
+          held = r.held;
+          address = r.address ∙ m.studio.address;
+          file_last = λ is. r.file_last;
+          file_held = λ is. r.file_held;
+          counted = r.counted;
+          sent = r.sent ∙ m.studio.sent ∙ ap (λ (w : World V). w.once.sent) (sym world);
+          heard = λ k code is. absurd (nothing code (sym (r.heard_none k) ∙ is));
           told = λ k code is. ap (λ (w : World V). w.once.codes k) world
-              ∙ m.studio.told k code (sym (told k) ∙ is);
+              ∙ m.studio.told k code (sym (r.told k) ∙ is);
         };
         part = m.part;
         part_is = m.part_is;
@@ -342,7 +346,7 @@ module _ {V : Type 0} (step : Step V) (taken : Taken V) (e : EncoderState V) (be
         coming = subst (λ (w : World V). Comes e.address w.once.sent m.part x.between.coming m.frames) (sym world)
             m.coming;
         heard_part = [];
-        heard_part_is = ap (λ (y : ServerState). y.part) server ∙ nothing_open step taken e before ready shut;
+        heard_part_is = r.part ∙ nothing_open step taken e before ready shut;
         heard_quiet = nothing_there step taken e before ready shut;
         replies = [];
         going = refl;
@@ -363,14 +367,36 @@ module _ {V : Type 0} (step : Step V) (taken : Taken V) (e : EncoderState V) (be
       nothing : (code : Code) → None ≡ Some code → ⊥
       nothing code is = absurd (cc)
 
-  pub studio_crash_matches : (x : Ends V) (saved : Bool) → M x → M (ends_after step taken x (StudioCrashes saved))
-  studio_crash_matches x false m =
-      restarts_so x m false m.s m.backed refl m.studio.file
-      (ap (server_going_on x.studio.server.address) m.studio.file) refl (λ k. refl) (λ k. refl) m.in_time.acked_file
-  studio_crash_matches x true m =
+  pub studio_crash_matches : (x : Ends V) (saved : Bool) → MayHappen x (StudioCrashes saved) → M x
+      → M (ends_after step taken x (StudioCrashes saved))
+  studio_crash_matches x false (inr never) m = absurd (false≢true never)
+  studio_crash_matches x false (inl is_saved) m =
+      restarts_so x m false m.s m.backed refl (record {
+        last = m.studio.file_last is_saved;
+        held = m.studio.file_held is_saved;
+        address = refl;
+        part = refl;
+        file_last = m.studio.file_last is_saved;
+        file_held = m.studio.file_held is_saved;
+        counted = m.studio.counted;
+        sent = refl;
+        heard_none = λ k. refl;
+        told = λ k. refl;
+      }) m.in_time.acked_file
+  studio_crash_matches x true may m =
       restarts_so x m true (server_saved m.s) (backed_saved step taken e before ready shut m.s m.acts m.backed) refl
-      (saved_file x.studio m.s m.studio)
-      (ap (server_going_on x.studio.server.address) (saved_file x.studio m.s m.studio)) refl (λ k. refl) (λ k. refl)
+      (record {
+        last = m.studio.last;
+        held = m.studio.held;
+        address = refl;
+        part = refl;
+        file_last = m.studio.last;
+        file_held = m.studio.held;
+        counted = m.studio.counted;
+        sent = refl;
+        heard_none = λ k. refl;
+        told = λ k. refl;
+      })
       (λ k is. m.in_time.acked k (sym (saved_shows m.s m.acts m.backed k) ∙ is))
 
   -- ---- The studio takes lines.
@@ -465,13 +491,23 @@ module _ {V : Type 0} (step : Step V) (taken : Taken V) (e : EncoderState V) (be
   below_all (suc p) n l =
       all_append (λ k. k < n) (numbers_below p) (p ∷ []) (below_all p n (omega (arith, l))) (omega (arith, l), tt)
 
-  pub takes_match : (x : Ends V) (ms : List (List ℕ)) → MayHappen x (TakesLines ms) → M x
-      → M (ends_after step taken x (TakesLines ms))
-  takes_match x ms may m =
+  -- messages were taken: lines, or what tells the station
+  record HasTaken (x u : Studio) (ms : List (List ℕ)) : Type 0 where
+    server : u.server ≡ submitted_each x.server ms
+    file_last : u.is_saved ≡ true → u.file.last ≡ (submitted_each x.server ms).last
+    file_held : u.is_saved ≡ true → u.file.held ≡ (submitted_each x.server ms).held
+    counted : u.file.taken + u.station ≡ x.file.taken + x.station + length ms
+    sent : u.sent ≡ x.sent ++ ms
+    heard : (k : ℕ) → u.heard k ≡ x.heard k
+    told : (k : ℕ) → u.told k ≡ x.told k
+
+  taken_match : (x : Ends V) (u : Studio) (ms : List (List ℕ)) → AreTaken x.studio ms → HasTaken x.studio u ms → M x
+      → M (record x { studio = u })
+  taken_match x u ms may has m =
       takes_so (submitted_so m.s m.acts ms m.backed
       (let same = ap length m.studio.held in let few = may.0 in omega (arith, same, few)) may.1)
     where
-      takes_so : Submitted m.s m.acts ms → M (ends_after step taken x (TakesLines ms))
+      takes_so : Submitted m.s m.acts ms → M (record x { studio = u })
       takes_so t =
           let s : Station V = m.s in
           let s1 : Station V = server_saved t.s1 in
@@ -506,13 +542,19 @@ module _ {V : Type 0} (step : Step V) (taken : Taken V) (e : EncoderState V) (be
             deeds = m.deeds ∙ acts_below (length s.world.once.sent) m.acts below s.world.once.sent ms refl
                 ∙ ap (λ (l : List (List ℕ)). map (deed_at l) m.acts) (sym t.sent);
             studio = record {
-              last = server.last;
-              held = server.held;
-              address = submitted_address x.studio.server ms ∙ m.studio.address;
-              file = takes_file t server;
-              sent = ap (λ (l : List (List ℕ)). l ++ ms) m.studio.sent ∙ sym t.sent;
-              heard = λ k code is. ap (λ (c : ℕ → Option Code). c k) t.codes ∙ m.studio.heard k code is;
-              told = λ k code is. ap (λ (c : ℕ → Option Code). c k) t.codes ∙ m.studio.told k code is;
+              last = ap (λ (y : ServerState). y.last) has.server ∙ server.last;
+              held = ap (λ (y : ServerState). y.held) has.server ∙ server.held;
+              address = ap (λ (y : ServerState). y.address) has.server ∙ submitted_address x.studio.server ms
+                  ∙ m.studio.address;
+              file_last = λ saved. has.file_last saved ∙ server.last;
+              file_held = λ saved. has.file_held saved ∙ server.held;
+              counted = (let now = has.counted in let was = m.studio.counted in
+                  let more = ap (λ (p : Progress). p.taken) t.progress in omega (arith, now, was, more));
+              sent = has.sent ∙ ap (λ (l : List (List ℕ)). l ++ ms) m.studio.sent ∙ sym t.sent;
+              heard = λ k code is. ap (λ (c : ℕ → Option Code). c k) t.codes
+                  ∙ m.studio.heard k code (sym (has.heard k) ∙ is);
+              told = λ k code is. ap (λ (c : ℕ → Option Code). c k) t.codes
+                  ∙ m.studio.told k code (sym (has.told k) ∙ is);
             };
             part = m.part;
             part_is = m.part_is;
@@ -522,7 +564,8 @@ module _ {V : Type 0} (step : Step V) (taken : Taken V) (e : EncoderState V) (be
                 (comes_more e.address s.world.once.sent ms m.part x.between.coming m.frames
                 (all_back (λ k. k < length s.world.once.sent) m.replies (all_of m.frames) pipe.sent) m.coming);
             heard_part = m.heard_part;
-            heard_part_is = submitted_still x.studio.server ms ∙ m.heard_part_is;
+            heard_part_is = ap (λ (y : ServerState). y.part) has.server ∙ submitted_still x.studio.server ms
+                ∙ m.heard_part_is;
             heard_quiet = m.heard_quiet;
             replies = m.replies;
             going = m.going
@@ -554,16 +597,28 @@ module _ {V : Type 0} (step : Step V) (taken : Taken V) (e : EncoderState V) (be
           submitted_address y [] = refl
           submitted_address y (m ∷ ms) = submitted_address (submitted y m) ms
 
-          kept_as : Progress → ℕ → List Held → KeptServer
-          kept_as p l hs = record { last = l; held = hs; taken = p.taken; joined = p.joined }
+  pub takes_match : (x : Ends V) (ms : List (List ℕ)) → MayHappen x (TakesLines ms) → M x
+      → M (ends_after step taken x (TakesLines ms))
+  takes_match x ms may m =
+      taken_match x (studio_after x.studio (TakesLines ms)) ms may (record {
+        server = refl;
+        file_last = λ saved. refl;
+        file_held = λ saved. refl;
+        counted = omega arith;
+        sent = refl;
+        heard = λ k. refl;
+        told = λ k. refl;
+      }) m
 
-          takes_file : (t : Submitted m.s m.acts ms)
-              → SubmittedAlike (submitted_each x.studio.server ms) t.s1.world.server
-              → server_kept (taking (progress_in x.studio.file) (length ms)) (submitted_each x.studio.server ms)
-              ≡ (server_saved t.s1).server_file
-          takes_file t server =
-              ap (λ (p : Progress). server_kept p (submitted_each x.studio.server ms))
-              (ap (λ (file : KeptServer). taking (progress_in file) (length ms)) m.studio.file ∙ sym t.progress)
-              ∙ ap (λ (l : ℕ). kept_as (progress_in t.s1.server_file) l (submitted_each x.studio.server ms).held)
-              server.last
-              ∙ ap (kept_as (progress_in t.s1.server_file) t.s1.world.server.last) server.held
+  pub says_match : (x : Ends V) (ms : List (List ℕ)) → MayHappen x (SaysStation ms) → M x
+      → M (ends_after step taken x (SaysStation ms))
+  says_match x ms may m =
+      taken_match x (studio_after x.studio (SaysStation ms)) ms may.1 (record {
+        server = refl;
+        file_last = λ saved. absurd (false≢true saved);
+        file_held = λ saved. absurd (false≢true saved);
+        counted = omega arith;
+        sent = refl;
+        heard = λ k. refl;
+        told = λ k. refl;
+      }) m

@@ -33,7 +33,8 @@ use Rattle.uecp_net.specs.SavedSending.{Settles}
 use Rattle.promises.specs.Station.{progress_in}
 use Rattle.promises.specs.DeviceLives.{DeviceEvent, HangsUp as DeviceHangsUp, Crashes, TakesGroup, StartsAgain, Deed}
 use Rattle.promises.specs.DeviceLives.{Reads as DeviceReads, Happens}
-use Rattle.promises.specs.Ends.{Studio, Transmitter, EndEvent, TakesLines, Dials, Writes, Hears, Tells, StudioCrashes}
+use Rattle.promises.specs.Ends.{Studio, Transmitter, EndEvent, SaysStation, TakesLines, Dials, Writes, Hears, Tells}
+use Rattle.promises.specs.Ends.{StudioCrashes}
 use Rattle.promises.specs.Ends.{Reads, Leaves, EncoderCrashes, Gives, Stranger, is_at_studio, is_of_last, heard_with}
 use Rattle.promises.specs.Ends.{studio_after, transmitter_after, submitted_each, run_studio, run_transmitter}
 use Rattle.promises.specs.Doings.{IsOnConnection, GoesOver, HasServer, IsUntold, SettlesAs, CrashesAs, StudioDoes}
@@ -53,6 +54,7 @@ all_events P [] ys h k = k
 all_events P (x ∷ xs) ys h k = (h.0, all_events P xs ys h.1 k)
 
 on_is_at : (event : EndEvent) → IsOnConnection event → is_at_studio event ≡ true
+on_is_at (SaysStation ms) on = refl
 on_is_at (TakesLines ms) on = refl
 on_is_at Dials on = refl
 on_is_at Writes on = refl
@@ -225,7 +227,7 @@ module _ {C I O K : Type 0} (opens : C → Option (I × O) → C → Type 0) (cl
   hung_up s s' (inl (none, same)) = ap (λ (t : Over). t.sender.server) same
   hung_up s s' (inr (ends, has, closed, same)) = ap (λ (t : Over). t.sender.server) same
 
-  delivers_goes : (ended : ℕ) (before : Reason) (old new : Over) (marks marks' : Marks) (result : Result ℕ Reason)
+  pub delivers_goes : (ended : ℕ) (before : Reason) (old new : Over) (marks marks' : Marks) (result : Result ℕ Reason)
       → Delivers opens closes remaining contents ended before old new marks marks' result
       → GoesFrom old.sender.server new.sender.server marks marks'
   delivers_goes (suc n) before old new marks marks' result (fault, last, next, some, attempts, hangs, another, rest) =
@@ -301,6 +303,7 @@ module _ {C I O K : Type 0} (opens : C → Option (I × O) → C → Type 0) (cl
         ∙ ap (λ (file : KeptServer). record x {
           server = new.sender.server;
           file = kept_of (progress_in file) new.sender.server;
+          is_saved = true;
           heard = heard_with (length x.sent) x.heard marks;
           told = λ k. option_or (x.told k) (heard_with (length x.sent) x.heard marks k);
         }) has.file;
@@ -361,6 +364,7 @@ module _ {C I O K : Type 0} (opens : C → Option (I × O) → C → Type 0) (cl
     leads = ap (λ (file : KeptServer). record x {
       server = going_on x.server.address file;
       file = file;
+      is_saved = true;
       heard = λ k. None;
     }) (sym is);
   }
@@ -380,7 +384,7 @@ module _ {C I O K : Type 0} (opens : C → Option (I × O) → C → Type 0) (cl
   }
     where
       restarted : ℕ → KeptServer → Studio
-      restarted a file = record x { server = going_on a file; file = file; heard = λ k. None }
+      restarted a file = record x { server = going_on a file; file = file; is_saved = true; heard = λ k. None }
 
   crashes_so : (x : Studio) (progress : Progress) (old new : Over) (k k' : K) (ended : Ended) (left : KeptServer)
       → Has x progress old → SettlesKept opens closes remaining contents saves fails progress old new k k' ended

@@ -10,15 +10,15 @@ use Rattle.uecp_frame.specs.Findings.{Closed}
 use Rattle.uecp_encoder.specs.Target.{Step, Taken}
 use Rattle.uecp_encoder.specs.State.{EncoderState}
 use Rattle.uecp_link.specs.Counters.{counter_of}
-use Rattle.uecp_link.specs.Server.{ServerState, waiting_among}
+use Rattle.uecp_link.specs.Server.{ServerState, Held, waiting_among}
 use Rattle.uecp_link.specs.Once.{message_at, missing}
 use Rattle.uecp_link.specs.History.{Act, Message, Taking, messages_in}
 use Rattle.uecp_link.specs.Fold.{codes_after}
 use Rattle.uecp_link.specs.Law.{World}
 use Rattle.uecp_link.specs.Kept.{IsReady}
-use Rattle.uecp_net.specs.Keeping.{KeptServer}
 use Rattle.promises.specs.Station.{Station, acknowledged_by}
-use Rattle.promises.specs.Ends.{Ends, EndEvent, TakesLines, Dials, Writes, Hears, Tells, StudioCrashes, Reads, Leaves}
+use Rattle.promises.specs.Ends.{Ends, EndEvent, SaysStation, TakesLines, Dials, Writes, Hears, Tells, StudioCrashes}
+use Rattle.promises.specs.Ends.{Reads, Leaves}
 use Rattle.promises.specs.Ends.{EncoderCrashes, Gives, Stranger, IsNewServer, ends_from, ends_after, run_ends}
 use Rattle.promises.specs.Ends.{MayHappen, MayAll}
 use Rattle.promises.specs.EachLine.{messages_of, codes_of, IsEachOnce, EachLineOnce, IsOfItsOwn, EachEndIsItsOwn}
@@ -31,7 +31,8 @@ use Rattle.promises.proofs.EndFrames.{deed_at, law_at}
 use Rattle.promises.proofs.EndsMatch.{Matches, first_match}
 use Rattle.promises.proofs.AtTransmitter.{leaves_match, encoder_crash_matches, gives_match, stranger_matches}
 use Rattle.promises.proofs.AtTransmitter.{reads_match}
-use Rattle.promises.proofs.AtStudio.{takes_match, dials_match, writes_match, tells_match, studio_crash_matches}
+use Rattle.promises.proofs.AtStudio.{says_match, takes_match, dials_match, writes_match, tells_match}
+use Rattle.promises.proofs.AtStudio.{studio_crash_matches}
 use Rattle.promises.proofs.StudioHears.{hears_match}
 
 -- what a history makes, as deeds
@@ -70,12 +71,13 @@ module _ {V : Type 0} (step : Step V) (taken : Taken V) (e : EncoderState V) (be
   M x = Matches step taken e before ready shut x
 
   match_event : (x : Ends V) (event : EndEvent) → MayHappen x event → M x → M (ends_after step taken x event)
+  match_event x (SaysStation ms) may m = says_match step taken e before ready shut x ms may m
   match_event x (TakesLines ms) may m = takes_match step taken e before ready shut x ms may m
   match_event x Dials may m = dials_match step taken e before ready shut x m
   match_event x Writes may m = writes_match step taken e before ready shut x m
   match_event x (Hears bytes) may m = hears_match step taken e before ready shut x bytes may m
   match_event x Tells may m = tells_match step taken e before ready shut x m
-  match_event x (StudioCrashes saved) may m = studio_crash_matches step taken e before ready shut x saved m
+  match_event x (StudioCrashes saved) may m = studio_crash_matches step taken e before ready shut x saved may m
   match_event x (Reads bytes) may m = reads_match step taken e before ready shut x bytes may m
   match_event x Leaves may m = leaves_match step taken e before ready shut x m
   match_event x EncoderCrashes may m = encoder_crash_matches step taken e before ready shut x m
@@ -116,8 +118,8 @@ module _ {V : Type 0} (step : Step V) (taken : Taken V) (e : EncoderState V) (be
           ltb-true k p (sym (law.1.applied k) ∙ ap is_some (m.studio.told k code is)),
           ap (λ (cs : List Code). slice_get cs k) codes_are ∙ sym (law.2.codes k) ∙ m.studio.told k code is,
         );
-        waits = λ k from below. waits_so k from (omega (arith, below, n_is));
-        counted = ap (λ (file : KeptServer). file.taken) m.studio.file ∙ files.taken
+        waits = λ saved k from below. waits_so saved k from (omega (arith, below, n_is));
+        counted = m.studio.counted ∙ files.taken
             ∙ ap (λ (ms : List (List ℕ)). before + length ms) (sym m.studio.sent);
       }
     where
@@ -151,10 +153,10 @@ module _ {V : Type 0} (step : Step V) (taken : Taken V) (e : EncoderState V) (be
           ap (λ (f : ℕ → Bool). f k) (shown step taken e before ready shut m.s m.acts h)
           ∙ not_in (h.acknowledged k) refl
 
-      waits_so : (k : ℕ) → (law_at step taken e before ready shut m.s m.acts m.backed).0 ≤ k
+      waits_so : x.studio.is_saved ≡ true → (k : ℕ) → (law_at step taken e before ready shut m.s m.acts m.backed).0 ≤ k
           → k < length m.s.world.once.sent
           → Contains (waiting_among x.studio.file.held) (counter_of k, message_at x.studio.sent k)
-      waits_so k from below =
+      waits_so saved k from below =
           let sent : List (List ℕ) = m.s.world.once.sent in
           let files = files_hold step taken e before ready shut m.s m.acts m.backed in
           let there : Contains (waiting_among m.s.server_file.held) (counter_of k, message_at sent k) =
@@ -164,8 +166,8 @@ module _ {V : Type 0} (step : Step V) (taken : Taken V) (e : EncoderState V) (be
           (is_missing (acknowledged_by m.s.server_file.held (length sent)) (length sent) k below (shows_not k from))) in
           subst (λ (ms : List (List ℕ)). Contains (waiting_among x.studio.file.held) (counter_of k, message_at ms k))
           (sym m.studio.sent)
-          (subst (λ (file : KeptServer). Contains (waiting_among file.held) (counter_of k, message_at sent k))
-          (sym m.studio.file) there)
+          (subst (λ (hs : List Held). Contains (waiting_among hs) (counter_of k, message_at sent k))
+          (sym (m.studio.file_held saved)) there)
 
 -- what is come to, as a line and its files come to it
 pub each_matches : {V : Type 0} (step : Step V) (taken : Taken V) (e : EncoderState V) (server : ServerState)
@@ -186,6 +188,7 @@ each_line_once_lem step taken e server before ready shut new events may =
 module _ {V : Type 0} (step : Step V) (taken : Taken V) where
   own_event : (x : Ends V) (event : EndEvent) (events : List EndEvent)
       → IsOfItsOwn step taken (ends_after step taken x event) events → IsOfItsOwn step taken x (event ∷ events)
+  own_event x (SaysStation ms) events h = record { studio = h.studio; transmitter = h.transmitter }
   own_event x (TakesLines ms) events h = record { studio = h.studio; transmitter = h.transmitter }
   own_event x Dials events h = record { studio = h.studio; transmitter = h.transmitter }
   own_event x Writes events h = record { studio = h.studio; transmitter = h.transmitter }

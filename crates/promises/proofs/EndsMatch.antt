@@ -92,7 +92,9 @@ module _ {V : Type 0} (step : Step V) (taken : Taken V) (e : EncoderState V) (be
     pub last : x.server.last ≡ s.world.server.last
     pub held : x.server.held ≡ s.world.server.held
     pub address : x.server.address ≡ e.address
-    pub file : x.file ≡ s.server_file
+    pub file_last : x.is_saved ≡ true → x.file.last ≡ s.server_file.last
+    pub file_held : x.is_saved ≡ true → x.file.held ≡ s.server_file.held
+    pub counted : x.file.taken + x.station ≡ s.server_file.taken
     pub sent : x.sent ≡ s.world.once.sent
     pub heard : (k : ℕ) (code : Code) → x.heard k ≡ Some code → s.world.once.codes k ≡ Some code
     pub told : (k : ℕ) (code : Code) → x.told k ≡ Some code → s.world.once.codes k ≡ Some code
@@ -147,7 +149,9 @@ module _ {V : Type 0} (step : Step V) (taken : Taken V) (e : EncoderState V) (be
     last = m.last ∙ ap (λ (d : ServerState). d.last) (sym server);
     held = m.held ∙ ap (λ (d : ServerState). d.held) (sym server);
     address = m.address;
-    file = m.file ∙ sym file;
+    file_last = λ saved. m.file_last saved ∙ ap (λ (f : KeptServer). f.last) (sym file);
+    file_held = λ saved. m.file_held saved ∙ ap (λ (f : KeptServer). f.held) (sym file);
+    counted = m.counted ∙ ap (λ (f : KeptServer). f.taken) (sym file);
     sent = m.sent ∙ sym sent;
     heard = λ k code is. grow k code (m.heard k code is);
     told = λ k code is. grow k code (m.told k code is);
@@ -183,7 +187,9 @@ module _ {V : Type 0} (step : Step V) (taken : Taken V) (e : EncoderState V) (be
           last = new.last;
           held = new.held;
           address = new.at;
-          file = ap (λ (l : ℕ). first_file l server.held) new.last ∙ ap (first_file 0) new.held;
+          file_last = λ saved. new.last;
+          file_held = λ saved. new.held;
+          counted = (let none : before + 0 ≡ before = omega arith in none);
           sent = refl;
           heard = λ k code is. absurd (nothing code is);
           told = λ k code is. absurd (nothing code is);
@@ -211,9 +217,6 @@ module _ {V : Type 0} (step : Step V) (taken : Taken V) (e : EncoderState V) (be
     where
       nothing : (code : Code) → None ≡ Some code → ⊥
       nothing code is = absurd (cc)
-
-      first_file : ℕ → List Held → KeptServer
-      first_file l hs = record { last = l; held = hs; taken = before; joined = true }
 
   -- ---- The encoder reads.
 

@@ -27,17 +27,14 @@ killed = record {
             (
               refl,
               (
-                tt,
+                inl refl,
                 (
                   tt,
                   (
                     tt,
                     (
                       refl,
-                      (
-                        refl,
-                        (tt, tt),
-                      ),
+                      (refl, (tt, tt)),
                     ),
                   ),
                 ),

@@ -69,3 +69,4 @@ pub mod BatchRuns
 pub mod RunMessages
 pub mod RunEvents
 pub mod Joins
+pub mod StationEvents

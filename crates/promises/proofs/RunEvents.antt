@@ -20,7 +20,8 @@ use Rattle.sending.specs.declared.options.LiveOptions.{LiveOptions}
 use Rattle.sending.specs.Run.{Live, Turn, GoesOnFor, RunsTurns, RunsOn, SettlesOnce, SettlesLive, SendsSome, SendsBatch}
 use Rattle.sending.specs.Run.{run_of}
 use Rattle.promises.specs.Taken.{AreBatches}
-use Rattle.promises.specs.Ends.{Studio, EndEvent, TakesLines, Dials, Writes, Hears, Tells, StudioCrashes, Reads, Leaves}
+use Rattle.promises.specs.Ends.{Studio, EndEvent, SaysStation, TakesLines, Dials, Writes, Hears, Tells, StudioCrashes}
+use Rattle.promises.specs.Ends.{Reads, Leaves}
 use Rattle.promises.specs.Ends.{EncoderCrashes, Gives, Stranger, is_at_studio, studio_after, submitted_each, run_studio}
 use Rattle.promises.specs.Doings.{HasServer, SettlesAs, CrashesAs, RunsAs, RunsAreEvents}
 use Rattle.promises.specs.Doings.{StudioDoes, lines_of}
@@ -53,6 +54,7 @@ heard_at s bytes =
     findings_at (record s { part = open_beyond s.part bytes }) (found_beyond s.part bytes)
 
 event_at : (x : Studio) (event : EndEvent) → (studio_after x event).server.address ≡ x.server.address
+event_at x (SaysStation ms) = submitted_at x.server ms
 event_at x (TakesLines ms) = submitted_at x.server ms
 event_at x Dials = refl
 event_at x Writes = refl

@@ -196,7 +196,9 @@ module _ {V : Type 0} (step : Step V) (taken : Taken V) (e : EncoderState V) (be
           held = ap (λ (y : ServerState). y.held) now;
           address = ap (λ (y : ServerState). y.address) now
               ∙ server_address_at step taken e before ready shut s1 m.acts r.backed;
-          file = m.studio.file ∙ sym r.file;
+          file_last = λ saved. m.studio.file_last saved ∙ ap (λ (f : KeptServer). f.last) (sym r.file);
+          file_held = λ saved. m.studio.file_held saved ∙ ap (λ (f : KeptServer). f.held) (sym r.file);
+          counted = m.studio.counted ∙ ap (λ (f : KeptServer). f.taken) (sym r.file);
           sent = m.studio.sent ∙ sym r.sent;
           heard = λ k code is. own k code (heard_own x m bytes h k code is);
           told = λ k code is. own k code (m.studio.told k code is);

@@ -1,5 +1,5 @@
 -- What the calls do that the program makes, as events of both ends and the bytes between them. Source: profile.
-use Rattle.std.specs.Prelude.{◌≡◌, ◌⊎◌, ℕ, true, false, List, [], ◌∷◌, ◌++◌, length, map, Bool, Option, Some, None}
+use Rattle.std.specs.Prelude.{◌≡◌, ◌⊎◌, ℕ, ◌+◌, true, false, List, [], ◌∷◌, ◌++◌, length, map, Bool, Option, Some, None}
 use Rattle.std.specs.Prelude.{Result, Ok, Err}
 use Rattle.std.specs.Option.{option_or}
 use Rattle.std.specs.List.{AllByRecursion}
@@ -25,6 +25,7 @@ use Rattle.line_batches.specs.declared.taking.After.TheVariants.{GoesOn}
 use Rattle.sending.specs.declared.options.LiveOptions.{LiveOptions}
 use Rattle.sending.specs.Run.{Live, RunsOn, run_of}
 use Rattle.promises.specs.Taken.{AreBatches}
+use Rattle.promises.specs.Sent.{IsOut}
 use Rattle.promises.specs.DeviceLives.{DeviceEvent, Deed, DeviceLives}
 use Rattle.promises.specs.Ends.{Studio, Transmitter, EndEvent, TakesLines, Dials, Writes, Hears, Tells, StudioCrashes}
 use Rattle.promises.specs.Ends.{IsNewServer, is_at_studio, is_of_last, heard_with, studio_after, run_studio}
@@ -58,6 +59,7 @@ pub record SettlesAs (x : Studio) (server : ServerState) (file : KeptServer) (ma
       run_studio x (over ++ Tells ∷ []) ≡ record x {
         server = server;
         file = file;
+        is_saved = true;
         heard = heard;
         told = λ k. option_or (x.told k) (heard k);
       }
@@ -71,6 +73,7 @@ pub record CrashesAs (x : Studio) (left : KeptServer) : Type 0 where
   pub leads : run_studio x (over ++ StudioCrashes saved ∷ []) ≡ record x {
     server = going_on x.server.address left;
     file = left;
+    is_saved = true;
     heard = λ k. None;
   }
 
@@ -190,6 +193,25 @@ abbrev pub JoinsBegin : {V C I O : Type 0} → Step V → (opens : C → Option 
     → (closes : C → I → O → C → Type 0) → (remaining : I → Option (List ℕ)) → (contents : O → Option (List ℕ)) → Type 0
 JoinsBegin {V} {C} {I} {O} step opens closes remaining contents =
     (s s' : SenderOver C I O) → Joins opens closes remaining contents s s' (Ok tt) → JoinBegins step s s'
+
+-- Events at the studio say these messages, which tell its station, and lead to this server; no file has them yet, until
+-- the next save.
+pub record SaysAs (x : Studio) (station : List (List ℕ)) (server : ServerState) : Type 0 where
+  pub events : List EndEvent
+  pub at : AllByRecursion (λ event. is_at_studio event ≡ true) events
+  pub server_is : (run_studio x events).server ≡ server
+  pub file_is : (run_studio x events).file ≡ x.file
+  pub sent : (run_studio x events).sent ≡ x.sent ++ station
+  pub counted : (run_studio x events).station ≡ x.station + length station
+
+-- Law: a station that went out, as `station_is_out` says of a run, begins so: with its join, and then with such events.
+abbrev pub StationBegins : {V C I O : Type 0} → Step V → (opens : C → Option (I × O) → C → Type 0)
+    → (closes : C → I → O → C → Type 0) → (remaining : I → Option (List ℕ)) → (contents : O → Option (List ℕ)) → Type 0
+StationBegins {V} {C} {I} {O} step opens closes remaining contents =
+    (station : List (List ℕ)) (told : List Code) (s s' : SenderOver C I O)
+    → (out : IsOut opens closes remaining contents station told s s')
+    → JoinBegins step s out.begins
+    × ((x : Studio) → x.server ≡ out.begins.sender.server → SaysAs x station s'.sender.server)
 
 -- ---- At the transmitter.
 

@@ -28,10 +28,11 @@ codes_of step taken v (Applies counter message ∷ deeds) =
     (step v message).1 ∷ codes_of step taken (step v message).0 deeds
 codes_of step taken v (TakesOne ∷ deeds) = codes_of step taken (taken v).0 deeds
 
--- The encoder's store is what the first so many of the lines taken make, each once and in order, with the groups taken
--- between, of the store that it had at first: all of them, once each was told with a code. Each line that was told with
--- one is one of these, and that is the code that it got. Each that is not one of them waits in the studio's file, under
--- its counter; and that file counts the lines taken, and no other.
+-- The encoder's store is what the first so many of the messages taken make, those of the station and then the lines,
+-- each once and in order, with the groups taken between, of the store that it had at first: all of them, once each was
+-- told with a code. Each that was told with one is one of these, and that is the code that it got. Each that is not one
+-- of them waits in the studio's file, under its counter, once that has the station; and that file counts the lines
+-- taken, and no other.
 pub record IsEachOnce {V : Type 0} (step : Step V) (taken : Taken V) (e : EncoderState V) (before : ℕ)
     (x : Ends V) : Type 0 where
   pub applied : ℕ
@@ -41,9 +42,9 @@ pub record IsEachOnce {V : Type 0} (step : Step V) (taken : Taken V) (e : Encode
   pub store : kept_of x.transmitter.encoder ≡ after_deeds step taken (kept_of e) x.transmitter.deeds
   pub told : (k : ℕ) (code : Code) → x.studio.told k ≡ Some code
       → (k < applied) × (slice_get (codes_of step taken e.value x.transmitter.deeds) k ≡ Some code)
-  pub waits : (k : ℕ) → applied ≤ k → k < length x.studio.sent
+  pub waits : x.studio.is_saved ≡ true → (k : ℕ) → applied ≤ k → k < length x.studio.sent
       → Contains (waiting_among x.studio.file.held) (counter_of k, message_at x.studio.sent k)
-  pub counted : x.studio.file.taken ≡ before + length x.studio.sent
+  pub counted : x.studio.file.taken + x.studio.station ≡ before + length x.studio.sent
 
 -- Law: so it is after whatever may happen, from an encoder that is ready, as a new one is or one that was joined, and a
 -- new server for it.

@@ -24,12 +24,15 @@ use Rattle.promises.specs.DeviceLives.{Deed, TakesOne, deeds_of}
 
 -- ---- What there is.
 
--- At the studio: the server in memory, and its file; the messages that the file took, in order; and of each, by its
--- number from 0, the code with which it was acknowledged, as heard since the server was started, and as told.
+-- At the studio: the server in memory, and its file; the messages that it took, in order, of which the first so many
+-- tell its station and the others are lines; whether the file has them all; and of each message, by its number from 0,
+-- the code with which it was acknowledged, as heard since the server was started, and as told.
 pub record Studio : Type 0 where
   pub server : ServerState
   pub file : KeptServer
   pub sent : List (List ℕ)
+  pub station : ℕ
+  pub is_saved : Bool
   pub heard : ℕ → Option Code
   pub told : ℕ → Option Code
 
@@ -56,7 +59,8 @@ pub record Ends (V : Type 0) : Type 0 where
 
 pub data EndEvent : Type 0 where
   -- at the studio
-  TakesLines : List (List ℕ) → EndEvent  -- it takes these messages, and its file has them
+  SaysStation : List (List ℕ) → EndEvent  -- it takes these, which tell its station, and no file has them yet
+  TakesLines : List (List ℕ) → EndEvent  -- it takes these lines, and its file has them, and all before
   Dials : EndEvent  -- it opens a connection
   Writes : EndEvent  -- it writes the frames of the messages that wait
   Hears : List ℕ → EndEvent  -- it reads these bytes
@@ -88,15 +92,27 @@ heard_with sent heard marks k =
 
 -- The server goes on from its file, as it is or once it was saved.
 abbrev pub studio_restarts : Studio → (address : ℕ) → (file : KeptServer) → Studio
-studio_restarts x address file = record x { server = server_going_on address file; file = file; heard = λ k. None }
+studio_restarts x address file = record x {
+  server = server_going_on address file;
+  file = file;
+  is_saved = true;
+  heard = λ k. None;
+}
 
 abbrev pub studio_after : Studio → EndEvent → Studio
+studio_after x (SaysStation ms) = record x {
+  server = submitted_each x.server ms;
+  sent = x.sent ++ ms;
+  station = x.station + length ms;
+  is_saved = false;
+}
 studio_after x (TakesLines ms) =
     let server = submitted_each x.server ms in
     record x {
       server = server;
       file = server_kept (taking (progress_in x.file) (length ms)) server;
       sent = x.sent ++ ms;
+      is_saved = true;
     }
 studio_after x Dials = record x { server = record x.server { part = Closed } }
 studio_after x (Hears bytes) = record x {
@@ -105,6 +121,7 @@ studio_after x (Hears bytes) = record x {
 }
 studio_after x Tells = record x {
   file = server_kept (progress_in x.file) x.server;
+  is_saved = true;
   told = λ k. option_or (x.told k) (x.heard k);
 }
 studio_after x (StudioCrashes false) = studio_restarts x x.server.address x.file
@@ -195,12 +212,18 @@ abbrev pub IsNotFor : (address : ℕ) → Finding → Type 0
 IsNotFor address (Ok f) = (reaches f.address address ≡ false) ⊎ (f.counter ≡ 0)
 IsNotFor address (Err fault) = Unit {0}
 
--- What may happen. The studio takes what there is room for, and what fits a frame. Each end reads a beginning of what
--- the other wrote, on the connection that it has. And a stranger's connection is there between two of ours, or two
--- frames, and brings no message for this encoder.
+-- There is room for these messages at a studio's server, and each fits a frame.
+abbrev pub AreTaken : Studio → List (List ℕ) → Type 0
+AreTaken x ms = (length x.server.held + length ms ≤ 8) × AllByRecursion (λ m. length m ≤ 255) ms
+
+-- What may happen. The studio takes what there is room for, and what fits a frame; its station before any line, and
+-- where it crashes before its file has that, this is over: it begins anew. Each end reads a beginning of what the other
+-- wrote, on the connection that it has. And a stranger's connection is there between two of ours, or two frames, and
+-- brings no message for this encoder.
 abbrev pub MayHappen : {V : Type 0} → Ends V → EndEvent → Type 0
-MayHappen x (TakesLines ms) =
-    (length x.studio.server.held + length ms ≤ 8) × AllByRecursion (λ m. length m ≤ 255) ms
+MayHappen x (SaysStation ms) = (length x.studio.sent ≡ x.studio.station) × AreTaken x.studio ms
+MayHappen x (TakesLines ms) = AreTaken x.studio ms
+MayHappen x (StudioCrashes saved) = (x.studio.is_saved ≡ true) ⊎ (saved ≡ true)
 MayHappen x (Hears bytes) = StartsWith x.between.going bytes
 MayHappen x (Reads bytes) = ComeFirst x.between.coming bytes
 MayHappen x (Stranger bytes) =
@@ -227,6 +250,8 @@ ends_from e server before = record {
     server = server;
     file = server_kept (record { taken = before; joined = true }) server;
     sent = [];
+    station = 0;
+    is_saved = true;
     heard = λ k. None;
     told = λ k. None;
   };
@@ -237,6 +262,7 @@ ends_from e server before = record {
 -- ---- Each end alone.
 
 abbrev pub is_at_studio : EndEvent → Bool
+is_at_studio (SaysStation ms) = true
 is_at_studio (TakesLines ms) = true
 is_at_studio Dials = true
 is_at_studio Writes = true

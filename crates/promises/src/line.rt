@@ -2,7 +2,7 @@
 //! by connection. A law over whatever happens at either end; and laws by which the calls that the program makes do just
 //! that. No code.
 ghost use Rattle.promises.specs.EachLine.{EachLineOnce, EachLineOnceOverStretches, EachEndIsItsOwn};
-ghost use Rattle.promises.specs.Doings.{StudioDoes, RunsAreEvents, JoinsBegin, DaysAreEndEvents};
+ghost use Rattle.promises.specs.Doings.{StudioDoes, RunsAreEvents, JoinsBegin, StationBegins, DaysAreEndEvents};
 ghost use Rattle.promises.specs.Display.{EachLineIsShown};
 ghost use Rattle.promises.specs.Histories.{FourHistories};
 
@@ -73,6 +73,13 @@ pub fn run_is_events<S: Source, K: Keep<SavedServer>, C: Connections>()
 /// nothing is on its way. So the connection goes on as one that was just dialled.
 pub fn join_begins<T: Target, C: Connections>()
     ensures { JoinsBegin T.step C.opens C.closes C.Input.remaining C.Output.contents }
+{}
+
+/// A station that went out, as [`station_is_out`](crate::station::station_is_out) says of a run, begins so: with its
+/// join, and then with events that say it, batch by batch, of which the file has none until it is saved once, behind
+/// them. A crash before that ends the stretch, as the next run begins anew.
+pub fn station_begins<T: Target, C: Connections>()
+    ensures { StationBegins T.step C.opens C.closes C.Input.remaining C.Output.contents }
 {}
 
 /// The days of an encoder are such events at its end. They are what the clauses of the calls come to that serve it:
