@@ -146,6 +146,7 @@ module _ {V : Type 0} (step : Step V) (taken : Taken V) (e : EncoderState V) (be
       file_last = m.studio.file_last;
       file_held = m.studio.file_held;
       counted = m.studio.counted;
+      said = m.studio.said;
       sent = m.studio.sent;
       heard = m.studio.heard;
       told = m.studio.told;
@@ -268,6 +269,7 @@ module _ {V : Type 0} (step : Step V) (taken : Taken V) (e : EncoderState V) (be
           file_last = λ saved. m.studio.last;
           file_held = λ saved. m.studio.held;
           counted = m.studio.counted;
+          said = m.studio.said;
           sent = m.studio.sent;
           heard = m.studio.heard;
           told = λ k code is. told_own k (x.studio.told k) refl code is;
@@ -308,6 +310,7 @@ module _ {V : Type 0} (step : Step V) (taken : Taken V) (e : EncoderState V) (be
     file_held : (studio_after x (StudioCrashes saved)).file.held ≡ s.server_file.held
     counted : (studio_after x (StudioCrashes saved)).file.taken + (studio_after x (StudioCrashes saved)).station
         ≡ s.server_file.taken
+    station : (studio_after x (StudioCrashes saved)).station ≡ x.station
     sent : (studio_after x (StudioCrashes saved)).sent ≡ x.sent
     heard_none : (k : ℕ) → (studio_after x (StudioCrashes saved)).heard k ≡ None
     told : (k : ℕ) → (studio_after x (StudioCrashes saved)).told k ≡ x.told k
@@ -334,6 +337,8 @@ module _ {V : Type 0} (step : Step V) (taken : Taken V) (e : EncoderState V) (be
           file_last = λ is. r.file_last;
           file_held = λ is. r.file_held;
           counted = r.counted;
+          said = subst (λ (w : World V). (studio_after x.studio (StudioCrashes saved)).station ≤ length w.once.sent)
+              (sym world) (subst (λ (n : ℕ). n ≤ length m.s.world.once.sent) (sym r.station) m.studio.said);
           sent = r.sent ∙ m.studio.sent ∙ ap (λ (w : World V). w.once.sent) (sym world);
           heard = λ k code is. absurd (nothing code (sym (r.heard_none k) ∙ is));
           told = λ k code is. ap (λ (w : World V). w.once.codes k) world
@@ -379,6 +384,7 @@ module _ {V : Type 0} (step : Step V) (taken : Taken V) (e : EncoderState V) (be
         file_last = m.studio.file_last is_saved;
         file_held = m.studio.file_held is_saved;
         counted = m.studio.counted;
+        station = refl;
         sent = refl;
         heard_none = λ k. refl;
         told = λ k. refl;
@@ -393,6 +399,7 @@ module _ {V : Type 0} (step : Step V) (taken : Taken V) (e : EncoderState V) (be
         file_last = m.studio.last;
         file_held = m.studio.held;
         counted = m.studio.counted;
+        station = refl;
         sent = refl;
         heard_none = λ k. refl;
         told = λ k. refl;
@@ -497,6 +504,7 @@ module _ {V : Type 0} (step : Step V) (taken : Taken V) (e : EncoderState V) (be
     file_last : u.is_saved ≡ true → u.file.last ≡ (submitted_each x.server ms).last
     file_held : u.is_saved ≡ true → u.file.held ≡ (submitted_each x.server ms).held
     counted : u.file.taken + u.station ≡ x.file.taken + x.station + length ms
+    said : u.station ≤ x.station + length ms
     sent : u.sent ≡ x.sent ++ ms
     heard : (k : ℕ) → u.heard k ≡ x.heard k
     told : (k : ℕ) → u.told k ≡ x.told k
@@ -550,6 +558,9 @@ module _ {V : Type 0} (step : Step V) (taken : Taken V) (e : EncoderState V) (be
               file_held = λ saved. has.file_held saved ∙ server.held;
               counted = (let now = has.counted in let was = m.studio.counted in
                   let more = ap (λ (p : Progress). p.taken) t.progress in omega (arith, now, was, more));
+              said = (let more = has.said in let was = m.studio.said in
+                  let all = ap length t.sent in let two = length-append s.world.once.sent ms in
+                  omega (arith, more, was, all, two));
               sent = has.sent ∙ ap (λ (l : List (List ℕ)). l ++ ms) m.studio.sent ∙ sym t.sent;
               heard = λ k code is. ap (λ (c : ℕ → Option Code). c k) t.codes
                   ∙ m.studio.heard k code (sym (has.heard k) ∙ is);
@@ -605,6 +616,7 @@ module _ {V : Type 0} (step : Step V) (taken : Taken V) (e : EncoderState V) (be
         file_last = λ saved. refl;
         file_held = λ saved. refl;
         counted = omega arith;
+        said = omega arith;
         sent = refl;
         heard = λ k. refl;
         told = λ k. refl;
@@ -618,6 +630,7 @@ module _ {V : Type 0} (step : Step V) (taken : Taken V) (e : EncoderState V) (be
         file_last = λ saved. absurd (false≢true saved);
         file_held = λ saved. absurd (false≢true saved);
         counted = omega arith;
+        said = omega arith;
         sent = refl;
         heard = λ k. refl;
         told = λ k. refl;

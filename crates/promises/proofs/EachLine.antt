@@ -1,8 +1,9 @@
 -- Each line once.
-use Rattle.std.proofs.Common.{◌≡◌, ℕ, zero, suc, ◌+◌, ◌<◌, ◌≤◌, Bool, true, false, cond, List, [], ◌∷◌, ◌++◌, length}
+use Rattle.std.proofs.Common.{◌≡◌, ℕ, zero, suc, ◌+◌, ◌-◌, ◌<◌, ◌≤◌, nat_lt, Bool, true, false, cond, List, [], ◌∷◌}
+use Rattle.std.proofs.Common.{◌++◌, length}
 use Rattle.std.proofs.Common.{map, take, Option, Some, None, refl, ap, sym, subst, ◌∙◌, arith, inl, inr}
 use Rattle.std.specs.Prelude.{is_some, slice_get, Contains}
-use Rattle.std.proofs.lemmas.Bool.{cases_Bool, cases_lt, lt-ltb, ltb-true}
+use Rattle.std.proofs.lemmas.Bool.{cases_Bool, cases_lt, le-ltb, lt-ltb, ltb-true}
 use Rattle.std.proofs.lemmas.List.{get_or-map, length-map}
 use Rattle.std.proofs.lemmas.List.Elements.{Contains-append_left, Contains-push}
 use Rattle.uecp_elements.specs.declared.code.Code.{Code}
@@ -17,12 +18,14 @@ use Rattle.uecp_link.specs.Fold.{codes_after}
 use Rattle.uecp_link.specs.Law.{World}
 use Rattle.uecp_link.specs.Kept.{IsReady}
 use Rattle.promises.specs.Station.{Station, acknowledged_by}
-use Rattle.promises.specs.Ends.{Ends, EndEvent, SaysStation, TakesLines, Dials, Writes, Hears, Tells, StudioCrashes}
+use Rattle.promises.specs.Ends.{Ends, Studio, EndEvent, SaysStation, TakesLines, Dials, Writes, Hears, Tells}
+use Rattle.promises.specs.Ends.{StudioCrashes}
 use Rattle.promises.specs.Ends.{Reads, Leaves}
 use Rattle.promises.specs.Ends.{EncoderCrashes, Gives, Stranger, IsNewServer, ends_from, ends_after, run_ends}
 use Rattle.promises.specs.Ends.{MayHappen, MayAll}
 use Rattle.promises.specs.EachLine.{messages_of, codes_of, IsEachOnce, EachLineOnce, IsOfItsOwn, EachEndIsItsOwn}
-use Rattle.promises.specs.EachLine.{end_of, EachLineOnceOverStretches}
+use Rattle.promises.specs.EachLine.{Stretch, end_of, AreStretches, AreEachOnce, told_list, told_of_line, all_told}
+use Rattle.promises.specs.EachLine.{EachLineOnceOverStretches}
 use Rattle.promises.proofs.Reaching.{lawful_of, with_server}
 use Rattle.promises.proofs.Backing.{shown}
 use Rattle.promises.proofs.Holding.{files_hold}
@@ -119,6 +122,7 @@ module _ {V : Type 0} (step : Step V) (taken : Taken V) (e : EncoderState V) (be
           ap (λ (cs : List Code). slice_get cs k) codes_are ∙ sym (law.2.codes k) ∙ m.studio.told k code is,
         );
         waits = λ saved k from below. waits_so saved k from (omega (arith, below, n_is));
+        said = subst (λ (ms : List (List ℕ)). x.studio.station ≤ length ms) (sym m.studio.sent) m.studio.said;
         counted = m.studio.counted ∙ files.taken
             ∙ ap (λ (ms : List (List ℕ)). before + length ms) (sym m.studio.sent);
       }
@@ -207,11 +211,62 @@ module _ {V : Type 0} (step : Step V) (taken : Taken V) where
 
 -- ---- Over beginnings anew.
 
-pub over_stretches_lem : {V : Type 0} (step : Step V) (taken : Taken V) → EachLineOnceOverStretches step taken
-over_stretches_lem step taken address opening before left [] are = tt
-over_stretches_lem step taken address opening before left (x ∷ xs) (at, ready, shut, store, new, may, later) = (
-  each_line_once_lem step taken x.encoder x.server before ready shut
-      (subst (λ (a : ℕ). IsNewServer a x.server) (sym at) new) x.events may,
-  over_stretches_lem step taken address opening (end_of step taken before x).studio.file.taken
-      (end_of step taken before x).transmitter.encoder.value xs later,
-)
+module _ {V : Type 0} (step : Step V) (taken : Taken V) where
+  each_stretch : (address : ℕ) (opening : V) (before : ℕ) (left : V) (stretches : List (Stretch V))
+      → AreStretches step taken address opening before left stretches → AreEachOnce step taken before stretches
+  each_stretch address opening before left [] are = tt
+  each_stretch address opening before left (x ∷ xs) (at, ready, shut, store, new, may, later) = (
+    each_line_once_lem step taken x.encoder x.server before ready shut
+        (subst (λ (a : ℕ). IsNewServer a x.server) (sym at) new) x.events may,
+    each_stretch address opening (end_of step taken before x).studio.file.taken
+        (end_of step taken before x).transmitter.encoder.value xs later,
+  )
+
+  -- of the lines of before nothing is told
+  none_below : (before : ℕ) (stretches : List (Stretch V)) → AreEachOnce step taken before stretches → (number : ℕ)
+      → number ≤ before → all_told step taken before stretches number ≡ []
+  none_below before [] each number below = refl
+  none_below before (x ∷ xs) (h, rest) number below =
+      let s : Studio = (end_of step taken before x).studio in
+      let later : all_told step taken s.file.taken xs number ≡ [] =
+      none_below s.file.taken xs rest number (omega (arith, h.counted, h.said, below)) in
+      let none : told_of_line before s number ≡ [] =
+      ap (λ (b : Bool). cond b (told_list (s.told (number - (before + 1) + s.station))) [])
+      (le-ltb before number (omega (arith, below))) in
+      ap (λ (l : List Code). l ++ all_told step taken s.file.taken xs number) none ∙ later
+
+  once_told : (before : ℕ) (stretches : List (Stretch V)) → AreEachOnce step taken before stretches → (number : ℕ)
+      → length (all_told step taken before stretches number) ≤ 1
+  once_told before [] each number = omega arith
+  once_told before (x ∷ xs) (h, rest) number =
+      from_here (nat_lt before number) refl
+      (once_told (end_of step taken before x).studio.file.taken xs rest number)
+    where
+      s : Studio
+      s = (end_of step taken before x).studio
+
+      k : ℕ
+      k = number - (before + 1) + s.station
+
+      more : List Code
+      more = all_told step taken s.file.taken xs number
+
+      by_told : (told : Option Code) → s.told k ≡ told → before < number → length more ≤ 1
+          → length (told_list told ++ more) ≤ 1
+      by_told None is above later = later
+      by_told (Some one) is above later =
+          let below = (h.told k one is).0 in
+          let nothing : more ≡ [] =
+          none_below s.file.taken xs rest number (omega (arith, below, h.some.0, above, h.counted)) in
+          let one_told : length (one ∷ more) ≡ 1 = ap (λ (l : List Code). suc (length l)) nothing in
+          omega (arith, one_told)
+
+      from_here : (b : Bool) → nat_lt before number ≡ b → length more ≤ 1
+          → length (cond b (told_list (s.told k)) [] ++ more) ≤ 1
+      from_here true above later = by_told (s.told k) refl (ltb-true before number above) later
+      from_here false below later = later
+
+  pub over_stretches_lem : EachLineOnceOverStretches step taken
+  over_stretches_lem address opening before left stretches are =
+      let each = each_stretch address opening before left stretches are in
+      (each, once_told before stretches each)

@@ -95,6 +95,7 @@ module _ {V : Type 0} (step : Step V) (taken : Taken V) (e : EncoderState V) (be
     pub file_last : x.is_saved ≡ true → x.file.last ≡ s.server_file.last
     pub file_held : x.is_saved ≡ true → x.file.held ≡ s.server_file.held
     pub counted : x.file.taken + x.station ≡ s.server_file.taken
+    pub said : x.station ≤ length s.world.once.sent
     pub sent : x.sent ≡ s.world.once.sent
     pub heard : (k : ℕ) (code : Code) → x.heard k ≡ Some code → s.world.once.codes k ≡ Some code
     pub told : (k : ℕ) (code : Code) → x.told k ≡ Some code → s.world.once.codes k ≡ Some code
@@ -152,6 +153,7 @@ module _ {V : Type 0} (step : Step V) (taken : Taken V) (e : EncoderState V) (be
     file_last = λ saved. m.file_last saved ∙ ap (λ (f : KeptServer). f.last) (sym file);
     file_held = λ saved. m.file_held saved ∙ ap (λ (f : KeptServer). f.held) (sym file);
     counted = m.counted ∙ ap (λ (f : KeptServer). f.taken) (sym file);
+    said = subst (λ (ms : List (List ℕ)). x.station ≤ length ms) (sym sent) m.said;
     sent = m.sent ∙ sym sent;
     heard = λ k code is. grow k code (m.heard k code is);
     told = λ k code is. grow k code (m.told k code is);
@@ -190,6 +192,7 @@ module _ {V : Type 0} (step : Step V) (taken : Taken V) (e : EncoderState V) (be
           file_last = λ saved. new.last;
           file_held = λ saved. new.held;
           counted = (let none : before + 0 ≡ before = omega arith in none);
+          said = omega arith;
           sent = refl;
           heard = λ k code is. absurd (nothing code is);
           told = λ k code is. absurd (nothing code is);

@@ -199,6 +199,7 @@ module _ {V : Type 0} (step : Step V) (taken : Taken V) (e : EncoderState V) (be
           file_last = λ saved. m.studio.file_last saved ∙ ap (λ (f : KeptServer). f.last) (sym r.file);
           file_held = λ saved. m.studio.file_held saved ∙ ap (λ (f : KeptServer). f.held) (sym r.file);
           counted = m.studio.counted ∙ ap (λ (f : KeptServer). f.taken) (sym r.file);
+          said = subst (λ (ms : List (List ℕ)). x.studio.station ≤ length ms) (sym r.sent) m.studio.said;
           sent = m.studio.sent ∙ sym r.sent;
           heard = λ k code is. own k code (heard_own x m bytes h k code is);
           told = λ k code is. own k code (m.studio.told k code is);

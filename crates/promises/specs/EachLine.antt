@@ -1,7 +1,8 @@
 -- Each line once: what holds of both ends, their files and the bytes between them, after whatever happened. Source:
 -- profile.
-use Rattle.std.specs.Prelude.{◌≡◌, ◌⊎◌, ℕ, ◌+◌, ◌<◌, ◌≤◌, List, [], ◌∷◌, length, take, slice_get, true, is_some, Some}
-use Rattle.std.specs.Prelude.{Contains}
+use Rattle.std.specs.Prelude.{◌≡◌, ◌⊎◌, ℕ, ◌+◌, ◌-◌, ◌<◌, ◌≤◌, nat_lt, List, [], ◌∷◌, length, take, slice_get, true}
+use Rattle.std.specs.Prelude.{is_some, Some}
+use Rattle.std.specs.Prelude.{Contains, ◌++◌, Option, None, if◌then◌else◌}
 use Rattle.uecp_elements.specs.declared.code.Code.{Code}
 use Rattle.uecp_frame.specs.Findings.{Closed}
 use Rattle.uecp_encoder.specs.Target.{Step, Taken}
@@ -12,7 +13,8 @@ use Rattle.uecp_link.specs.Server.{ServerState, waiting_among}
 use Rattle.uecp_link.specs.Once.{message_at}
 use Rattle.uecp_link.specs.Kept.{IsReady}
 use Rattle.promises.specs.DeviceLives.{Deed, Applies, TakesOne, after_deeds}
-use Rattle.promises.specs.Ends.{Ends, EndEvent, IsNewServer, ends_from, run_ends, MayAll, at_studio, at_transmitter}
+use Rattle.promises.specs.Ends.{Ends, Studio, EndEvent, IsNewServer, ends_from, run_ends, MayAll, at_studio}
+use Rattle.promises.specs.Ends.{at_transmitter}
 use Rattle.promises.specs.Ends.{run_studio, run_transmitter}
 
 -- The messages that were applied, in order.
@@ -45,6 +47,7 @@ pub record IsEachOnce {V : Type 0} (step : Step V) (taken : Taken V) (e : Encode
   pub waits : x.studio.is_saved ≡ true → (k : ℕ) → applied ≤ k → k < length x.studio.sent
       → Contains (waiting_among x.studio.file.held) (counter_of k, message_at x.studio.sent k)
   pub counted : x.studio.file.taken + x.studio.station ≡ before + length x.studio.sent
+  pub said : x.studio.station ≤ length x.studio.sent
 
 -- Law: so it is after whatever may happen, from an encoder that is ready, as a new one is or one that was joined, and a
 -- new server for it.
@@ -97,7 +100,28 @@ AreEachOnce step taken before (x ∷ xs) =
     IsEachOnce step taken x.encoder before (end_of step taken before x)
     × AreEachOnce step taken (end_of step taken before x).studio.file.taken xs
 
+-- A code that was told, as a list (private).
+abbrev pub told_list : Option Code → List Code
+told_list None = []
+told_list (Some code) = code ∷ []
+
+-- What was told of the line of a number where so many were taken before: of the message behind these and the station.
+abbrev pub told_of_line : (before : ℕ) → Studio → (number : ℕ) → List Code
+told_of_line before x number =
+    if nat_lt before number then told_list (x.told (number - (before + 1) + x.station)) else []
+
+-- All that was told of it, over stretches.
+abbrev pub all_told : {V : Type 0} → Step V → Taken V → (before : ℕ) → List (Stretch V) → (number : ℕ) → List Code
+all_told step taken before [] number = []
+all_told step taken before (x ∷ xs) number =
+    told_of_line before (end_of step taken before x).studio number
+    ++ all_told step taken (end_of step taken before x).studio.file.taken xs number
+
+-- Law: so it is over stretches, one behind another; and of each line, by its number in the studio's file, one code is
+-- told at most.
 abbrev pub EachLineOnceOverStretches : {V : Type 0} → Step V → Taken V → Type 0
 EachLineOnceOverStretches {V} step taken =
     (address : ℕ) (opening : V) (before : ℕ) (left : V) (stretches : List (Stretch V))
-    → AreStretches step taken address opening before left stretches → AreEachOnce step taken before stretches
+    → AreStretches step taken address opening before left stretches
+    → AreEachOnce step taken before stretches
+    × ((number : ℕ) → length (all_told step taken before stretches number) ≤ 1)

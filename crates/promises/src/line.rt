@@ -28,7 +28,8 @@ pub fn each_line_once<T: Target>()
 
 /// So it is in each of any number of stretches, one behind another, each from a beginning anew: there the encoder has
 /// the store that was left, or, where it is a new one or lost its file, the opening one. What waited at a beginning
-/// anew is given up, and a station that a crash cut is sent again: both are of the stretch before.
+/// anew is given up, and a station that a crash cut is sent again: both are of the stretch before. And of each line, by
+/// its number in the studio's file, one code is told at most, over all of them.
 pub fn each_line_once_over_stretches<T: Target>()
     ensures { EachLineOnceOverStretches T.step T.taken }
 {}
