@@ -168,6 +168,34 @@ module _ {V : Type 0} (step : Step V) (taken : Taken V) (e : EncoderState V) (be
         (sub_behind (all_of m.frames) (all_of m.frames) m.replies (sub_all (all_of m.frames))));
   }
 
+  -- what waits are the last ones
+  pub last_ones : (s : Station V) (acts : List Act) → Backed step taken e before ready shut s acts
+      → AllByRecursion (λ k. length s.world.once.sent ≤ k + 8)
+      (missing s.world.once.acknowledged (length s.world.once.sent))
+  last_ones s acts h =
+      let o : Once V = s.world.once in
+      let lawful = lawful_of step taken e ready shut s.world acts h.now in
+      let few = sent_le e.address s.world.encoder s.world.server o lawful.p lawful.q lawful.kept in
+      missing_have (λ k. length o.sent ≤ k + 8) o.acknowledged (length o.sent)
+      (λ k l is. elim (cases_lt k lawful.q) [
+        | inl gone ↦ absurd (false≢true (sym is ∙ lawful.kept.below k gone))
+        | inr held ↦ omega (arith, few.1, held)
+      ])
+
+  -- and their frames are what is written
+  pub window_so : (x : Ends V) (m : M x)
+      → window_sent x.studio.server ≡ spelled (frame_in e.address m.s.world.once.sent)
+      (missing m.s.world.once.acknowledged (length m.s.world.once.sent))
+  window_so x m =
+      let s : Station V = m.s in
+      let o : Once V = s.world.once in
+      let law = law_at step taken e before ready shut s m.acts m.backed in
+      ap (λ (hs : List Held). concat (map (λ w. spelling (frame_under x.studio.server.address w)) (waiting_among hs)))
+      m.studio.held
+      ∙ ap (λ (a : ℕ). concat (map (λ w. spelling (frame_under a w)) (waiting s.world.server))) m.studio.address
+      ∙ ap (λ ms. concat (map (λ w. spelling (frame_under e.address w)) ms)) law.1.outstanding
+      ∙ window_is e.address o.sent (missing o.acknowledged (length o.sent))
+
   -- other bytes are on their way to the encoder
   writes_so : (x : Ends V) (m : M x) (b : Bool)
       → M (record x {
@@ -178,24 +206,11 @@ module _ {V : Type 0} (step : Step V) (taken : Taken V) (e : EncoderState V) (be
   writes_so x m true =
       let s : Station V = m.s in
       let o : Once V = s.world.once in
-      let law = law_at step taken e before ready shut s m.acts m.backed in
-      let lawful = lawful_of step taken e ready shut s.world m.acts m.backed.now in
       let ws : List ℕ = missing o.acknowledged (length o.sent) in
-      let few = sent_le e.address s.world.encoder s.world.server o lawful.p lawful.q lawful.kept in
-      let window : window_sent x.studio.server ≡ spelled (frame_in e.address o.sent) ws =
-      ap (λ (hs : List Held). concat (map (λ w. spelling (frame_under x.studio.server.address w)) (waiting_among hs)))
-      m.studio.held
-      ∙ ap (λ (a : ℕ). concat (map (λ w. spelling (frame_under a w)) (waiting s.world.server))) m.studio.address
-      ∙ ap (λ ms. concat (map (λ w. spelling (frame_under e.address w)) ms)) law.1.outstanding
-      ∙ window_is e.address o.sent ws in
       let below : AllByRecursion (λ k. k < length o.sent) ws =
       missing_have (λ k. k < length o.sent) o.acknowledged (length o.sent) (λ k l is. l) in
-      let last : AllByRecursion (λ k. length o.sent ≤ k + 8) ws =
-      missing_have (λ k. length o.sent ≤ k + 8) o.acknowledged (length o.sent)
-      (λ k l is. elim (cases_lt k lawful.q) [
-        | inl gone ↦ absurd (false≢true (sym is ∙ lawful.kept.below k gone))
-        | inr held ↦ omega (arith, few.1, held)
-      ]) in
+      let window = window_so x m in
+      let last = last_ones s m.acts m.backed in
       let t = m.in_time in
       record {
         s = s;

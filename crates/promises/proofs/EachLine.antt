@@ -87,13 +87,13 @@ module _ {V : Type 0} (step : Step V) (taken : Taken V) (e : EncoderState V) (be
   match_event x Gives may m = gives_match step taken e before ready shut x m
   match_event x (Stranger bytes) may m = stranger_matches step taken e before ready shut x bytes may m
 
-  match_all : (x : Ends V) (events : List EndEvent) → MayAll step taken x events → M x
+  pub match_all : (x : Ends V) (events : List EndEvent) → MayAll step taken x events → M x
       → M (run_ends step taken x events)
   match_all x [] may m = m
   match_all x (event ∷ events) may m =
       match_all (ends_after step taken x event) events may.1 (match_event x event may.0 m)
 
-  each_once : (x : Ends V) → M x → IsEachOnce step taken e before x
+  pub each_once : (x : Ends V) → M x → IsEachOnce step taken e before x
   each_once x m =
       let s : Station V = m.s in
       let sent : List (List ℕ) = s.world.once.sent in

@@ -1,10 +1,11 @@
 -- What frames and replies that come whole do to both ends, as events of a line.
 use Rattle.std.proofs.Common.{◌≡◌, ℕ, ◌+◌, ◌<◌, ◌≤◌, ◌==◌, ◌&&◌, ◌||◌, ◌/◌, ◌%◌, Bool, true, false, cond, List, []}
-use Rattle.std.proofs.Common.{◌∷◌, ◌++◌, length, map, Option, Some, None, Ok, refl, ap, sym, subst, ◌∙◌, arith}
+use Rattle.std.proofs.Common.{◌∷◌, ◌++◌, length, map, Option, Some, None, Ok, Err, ◌⊎◌, refl, ap, sym, subst, ◌∙◌}
+use Rattle.std.proofs.Common.{arith}
 use Rattle.std.proofs.Common.{inl, inr, append_assoc, append-nil, eq-eqb}
 use Rattle.std.specs.Prelude.{is_none, is_some, flat_map}
 use Rattle.std.specs.List.{AllByRecursion}
-use Rattle.std.proofs.lemmas.Bool.{lt-ltb, le-leb, ne_eqb}
+use Rattle.std.proofs.lemmas.Bool.{cases_order, cases_lt, le-ltb, false≢true, lt-ltb, le-leb, ne_eqb}
 use Rattle.std.proofs.lemmas.List.{map-append}
 use Rattle.uecp_elements.specs.declared.code.Code.{Code}
 use Rattle.uecp_frame.specs.declared.frame.Frame.{Frame}
@@ -17,8 +18,8 @@ use Rattle.reply_ring.specs.Ring.{kept_code, keep}
 use Rattle.uecp_encoder.specs.Target.{Step, Taken}
 use Rattle.uecp_encoder.specs.State.{EncoderState, is_next, applied, numbered, after_finding, after_findings, fed}
 use Rattle.uecp_encoder.specs.State.{raised}
-use Rattle.uecp_encoder.specs.Answering.{Response, Replied, NotForMe, Unnumbered, NotNext, reply_of, replied}
-use Rattle.uecp_encoder.specs.Answering.{response_to, responses, bytes_sent, answers}
+use Rattle.uecp_encoder.specs.Answering.{Response, Replied, NotForMe, Unnumbered, NotNext, Dropped, reply_of, replied}
+use Rattle.uecp_encoder.specs.Answering.{response_to, responses, responses_to, bytes_sent, answers}
 use Rattle.uecp_encoder.specs.Laws.{fresh_in}
 use Rattle.uecp_encoder.proofs.Public.{findings_open, in_pieces_of_encoder, fed_none}
 use Rattle.uecp_link.specs.Counters.{counter_of, is_recent}
@@ -28,7 +29,7 @@ use Rattle.uecp_link.specs.Once.{applied_once, answer_of, Delivered, at_first}
 use Rattle.uecp_link.specs.Once.{NotNext as NotNextAnswer}
 use Rattle.uecp_link.specs.Once.{is_next as once_next}
 use Rattle.uecp_link.specs.History.{Act, Message, Taking, act_of, history}
-use Rattle.uecp_link.specs.Law.{World, frame_of, reply_bytes, Numbers, Values}
+use Rattle.uecp_link.specs.Law.{fresh_among, World, frame_of, reply_bytes, Numbers, Values}
 use Rattle.uecp_link.specs.Kept.{IsReady, code_at}
 use Rattle.uecp_link.proofs.Public.{law_from}
 use Rattle.promises.specs.Station.{Station, station_after}
@@ -73,6 +74,11 @@ kept_now ring counter code = rw (eq-eqb counter counter refl) refl
 
 none_is_some : {A : Type 0} (x : A) → None ≡ Some x → ⊥
 none_is_some x is = absurd (cc)
+
+-- Some of those below the first number, and the next ones in turn, up to the second.
+abbrev pub RunsTo : (p : ℕ) → List ℕ → (end : ℕ) → Type 0
+RunsTo p [] end = p ≡ end
+RunsTo p (k ∷ ks) end = ((k < p) × RunsTo p ks end) ⊎ ((k ≡ p) × RunsTo (p + 1) ks end)
 
 module _ {V : Type 0} (step : Step V) (taken : Taken V) (e : EncoderState V) (before : ℕ) (ready : IsReady e.ring)
     (shut : e.part ≡ Closed) where
@@ -301,6 +307,82 @@ module _ {V : Type 0} (step : Step V) (taken : Taken V) (e : EncoderState V) (be
           done = deeds_is ∙ does.1;
         }
 
+  -- ---- The next one is applied.
+
+  -- each number below this has a code
+  abbrev pub IsCodedTo : Station V → ℕ → Type 0
+  IsCodedTo s p = (j : ℕ) → j < p → is_some (s.world.once.codes j) ≡ true
+
+  no_deed : (r : Response) (d : Deed) → cond (fresh_in r == 1) (d ∷ []) [] ≡ [] → fresh_in r ≡ 0
+  no_deed (Replied bytes true) d is = absurd (cc)
+  no_deed (Replied bytes false) d is = refl
+  no_deed NotForMe d is = refl
+  no_deed Unnumbered d is = refl
+  no_deed NotNext d is = refl
+  no_deed (Dropped fault) d is = refl
+
+  none_in : (xs ys : List Deed) → xs ++ ys ≡ [] → (xs ≡ []) × (ys ≡ [])
+  none_in [] ys is = (refl, is)
+  none_in (x ∷ xs) ys is = absurd (cc)
+
+  not_fresh : (d : EncoderState V) (fs : List Finding) → deeds_among step d fs ≡ []
+      → fresh_among (responses step d fs) ≡ 0
+  not_fresh d [] is = refl
+  not_fresh d (Err fault ∷ fs) is =
+      let later = not_fresh (after_finding step d (Err fault)) fs is in omega (arith, later)
+  not_fresh d (Ok f ∷ fs) is =
+      let (first, rest) = none_in (deeds_in step d (Ok f)) (deeds_among step (after_finding step d (Ok f)) fs) is in
+      let one = no_deed (response_to step d (Ok f)) (Applies f.counter f.message) first in
+      let later = not_fresh (after_finding step d (Ok f)) fs rest in omega (arith, one, later)
+
+  -- the frame of one of these, or of the next, is replied to
+  replied_one : (s : Station V) (acts : List Act) (k p : ℕ) → IsBacked s acts
+      → IsNear (length s.world.once.sent) k → s.world.once.to_encoder ≡ [] → IsCodedTo s p → (k < p) ⊎ (k ≡ p)
+      → is_some ((framed s k).world.once.codes k) ≡ true
+  replied_one s acts k p h near none coded (inl below) = had (s.world.once.codes k) refl (coded k below)
+    where
+      had : (c : Option Code) → s.world.once.codes k ≡ c → is_some (s.world.once.codes k) ≡ true
+          → is_some ((framed s k).world.once.codes k) ≡ true
+      had (Some c) is some = ap is_some (codes_stay step taken s.world.once (FrameComes k) k c is)
+      had None is some = absurd (false≢true (sym (ap is_some is) ∙ some))
+  replied_one s acts k p h near none coded (inr here) =
+      by (s.world.once.codes k) refl (once_next s.world.once.codes (length s.world.once.sent) k) refl
+    where
+      by : (c : Option Code) → s.world.once.codes k ≡ c → (b : Bool)
+          → once_next s.world.once.codes (length s.world.once.sent) k ≡ b
+          → is_some ((framed s k).world.once.codes k) ≡ true
+      by (Some c) is b next = ap is_some (codes_stay step taken s.world.once (FrameComes k) k c is)
+      by None is true next =
+          ap (λ (c : Option Code). is_some ((delivered step s.world.once k c).codes k)) is
+          ∙ ap (λ (b : Bool). is_some ((cond b (applied_once step s.world.once k)
+          (record s.world.once { to_encoder = [] })).codes k)) next
+          ∙ rw (eq-eqb k k refl) refl
+      by None is false next =
+          let does = frame_does s acts k h near none in
+          let law = (law_at s acts h).1 in
+          let nothing : brought_at s k ≡ [] =
+          ap (λ (c : Option Code). act_of (FrameComes k) (delivery step s.world.once k c)) is
+          ∙ ap (λ (b : Bool). act_of (FrameComes k)
+          (cond b (Delivered true (step s.world.once.value (message_at s.world.once.sent k)).1) NotNextAnswer)) next in
+          let no_deeds : deeds_of step s.world.encoder (bytes_at s k) ≡ [] =
+          does.done ∙ ap (map (deed_at s.world.once.sent)) nothing in
+          let zero_ : fresh_among (responses_to step s.world.encoder (bytes_at s k)) ≡ 0 =
+          not_fresh s.world.encoder (found_beyond s.world.encoder.part (bytes_at s k)) no_deeds in
+          let fresh = law.fresh k near.below (le-leb (length s.world.once.sent) (k + 127) near.recent) in
+          let at : k ≡ (law_at s acts h).0 = elim (cases_order k (law_at s acts h).0) [
+            | inl same ↦ same
+            | inr other ↦ elim other [
+              | inl before ↦ absurd (false≢true (sym (ap is_some is)
+                  ∙ (law.applied k ∙ lt-ltb k (law_at s acts h).0 before)))
+              | inr past ↦ absurd (false≢true
+                  (sym (law.applied (law_at s acts h).0 ∙ le-ltb (law_at s acts h).0 (law_at s acts h).0 (omega arith))
+                  ∙ coded (law_at s acts h).0 (omega (arith, past, here))))
+            ]
+          ] in
+          let one : fresh_among (responses_to step s.world.encoder (bytes_at s k)) ≡ 1 =
+          fresh ∙ ap (λ (b : Bool). cond b 1 0) (eq-eqb k (law_at s acts h).0 at) in
+          absurd (omega (arith, zero_, one))
+
   -- ---- Frames one behind another.
 
   -- What they do: the replies are to some of them, all of which are applied by then; and nothing is done to the server.
@@ -318,6 +400,8 @@ module _ {V : Type 0} (step : Step V) (taken : Taken V) (e : EncoderState V) (be
         ≡ map (deed_at s.world.once.sent) brought
     pub some : Sub replied_to came
     pub coded : AllByRecursion (λ k. is_some (after_them.world.once.codes k) ≡ true) replied_to
+    -- to all, where each is the next, or was before
+    pub whole : (p end : ℕ) → IsCodedTo s p → RunsTo p came end → replied_to ≡ came
     pub server : after_them.world.server ≡ s.world.server
     pub file : after_them.server_file ≡ s.server_file
     pub sent : after_them.world.once.sent ≡ s.world.once.sent
@@ -360,6 +444,7 @@ module _ {V : Type 0} (step : Step V) (taken : Taken V) (e : EncoderState V) (be
     done = quiet_deeds step s.world.encoder [] (nothing_found s.world.encoder.part);
     some = tt;
     coded = tt;
+    whole = λ p end coded runs. refl;
     server = refl;
     file = refl;
     sent = refl;
@@ -398,13 +483,40 @@ module _ {V : Type 0} (step : Step V) (taken : Taken V) (e : EncoderState V) (be
           ∙ ap (λ (z : List ℕ). reply_bytes e.address k ((framed s k).world.once.codes k) ++ z) later in
           by ((framed s k).world.once.codes k) refl all
         where
+          coded_on : (p : ℕ) → IsCodedTo s p → IsCodedTo (framed s k) p
+          coded_on p coded j l = had (s.world.once.codes j) refl (coded j l)
+            where
+              had : (c : Option Code) → s.world.once.codes j ≡ c → is_some (s.world.once.codes j) ≡ true
+                  → is_some ((framed s k).world.once.codes j) ≡ true
+              had (Some c) is some = ap is_some (codes_stay step taken s.world.once (FrameComes k) j c is)
+              had None is some = absurd (false≢true (sym (ap is_some is) ∙ some))
+
+          later : (p end : ℕ) → IsCodedTo s p → RunsTo p (k ∷ ks) end
+              → (more.replied_to ≡ ks) × (is_some ((framed s k).world.once.codes k) ≡ true)
+          later p end coded (inl (below, rest)) = (
+            more.whole p end (coded_on p coded) rest,
+            replied_one s acts k p h near.0 none coded (inl below),
+          )
+          later p end coded (inr (here, rest)) =
+              let now = replied_one s acts k p h near.0 none coded (inr here) in (
+                more.whole (p + 1) end
+                    (λ j l. elim (cases_lt j p) [
+                      | inl before ↦ coded_on p coded j before
+                      | inr at ↦
+                          (let same : k ≡ j = omega (arith, here, l, at) in
+                          subst (λ (i : ℕ). is_some ((framed s k).world.once.codes i) ≡ true) same now)
+                    ]) rest,
+                now,
+              )
+
           with_replies : (rs : List ℕ)
               → answers step s.world.encoder (bytes_at s k ++ spelled (frame_in e.address s.world.once.sent) ks)
               ≡ replies_of e.address more.after_them.world.once rs
               → Sub rs (k ∷ ks)
               → AllByRecursion (λ k. is_some (more.after_them.world.once.codes k) ≡ true) rs
+              → ((p end : ℕ) → IsCodedTo s p → RunsTo p (k ∷ ks) end → rs ≡ k ∷ ks)
               → FramesDo s acts (k ∷ ks)
-          with_replies rs answered some coded = record {
+          with_replies rs answered some coded whole = record {
             after_them = more.after_them;
             brought = brought_at s k ++ more.brought;
             replied_to = rs;
@@ -429,6 +541,7 @@ module _ {V : Type 0} (step : Step V) (taken : Taken V) (e : EncoderState V) (be
                 ∙ sym (map-append (deed_at s.world.once.sent) (brought_at s k) more.brought);
             some = some;
             coded = coded;
+            whole = whole;
             server = more.server;
             file = more.file;
             sent = more.sent ∙ same;
@@ -448,11 +561,13 @@ module _ {V : Type 0} (step : Step V) (taken : Taken V) (e : EncoderState V) (be
               (all ∙ ap (λ (d : Option Code). reply_bytes e.address k d
               ++ replies_of e.address more.after_them.world.once more.replied_to) (is ∙ sym stays))
               (inl (refl, more.some)) (ap is_some stays, more.coded)
+              (λ p end coded runs. ap (λ (l : List ℕ). k ∷ l) (later p end coded runs).0)
           by None is all =
               with_replies more.replied_to
               (all ∙ ap (λ (d : Option Code). reply_bytes e.address k d
               ++ replies_of e.address more.after_them.world.once more.replied_to) is)
               (sub_one more.replied_to more.some) more.coded
+              (λ p end coded runs. absurd (false≢true (sym (ap is_some is) ∙ (later p end coded runs).1)))
             where
               sub_one : (rs : List ℕ) → Sub rs ks → Sub rs (k ∷ ks)
               sub_one [] h = tt

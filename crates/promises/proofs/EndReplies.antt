@@ -21,7 +21,7 @@ use Rattle.uecp_link.specs.Once.{Once, ReplyComes, refusal_of, TooLate, NotSent,
 use Rattle.uecp_link.specs.History.{Act}
 use Rattle.uecp_link.specs.Law.{reply_bytes}
 use Rattle.uecp_link.specs.Kept.{IsReady, code_at}
-use Rattle.uecp_link.proofs.Public.{heard_none, acknowledges_reply, reply_fits}
+use Rattle.uecp_link.proofs.Public.{heard_none, acknowledges_reply, reply_fits, with_member-same, with_member-true}
 use Rattle.promises.specs.Station.{Station, station_after}
 use Rattle.promises.proofs.EndFrames.{replies_of}
 use Rattle.promises.proofs.Backing.{Backed, backed_after}
@@ -175,6 +175,8 @@ module _ {V : Type 0} (step : Step V) (taken : Taken V) (e : EncoderState V) (be
     pub most : top1 ≤ length s.world.once.sent
     pub way : AreOnTheWay (length s.world.once.sent) top1 later
     pub acked : (k : ℕ) → after_them.world.once.acknowledged k ≡ true → k < top1
+    pub still : (k : ℕ) → s.world.once.acknowledged k ≡ true → after_them.world.once.acknowledged k ≡ true
+    pub heard_all : AllByRecursion (λ k. after_them.world.once.acknowledged k ≡ true) came
 
   open_reply : (o : Once V) (k : ℕ) → is_some (o.codes k) ≡ true → length o.sent ≤ k + 127
       → refusal_of o (ReplyComes k) ≡ None
@@ -204,6 +206,8 @@ module _ {V : Type 0} (step : Step V) (taken : Taken V) (e : EncoderState V) (be
     most = le;
     way = way;
     acked = acked;
+    still = λ k is. is;
+    heard_all = tt;
   }
   replies_do s acts (k ∷ ks) later top h coded way few le acked none =
       let (top1, up, over, most, way1) = heard_on_the_way (length s.world.once.sent) top k (ks ++ later) way in
@@ -250,6 +254,8 @@ module _ {V : Type 0} (step : Step V) (taken : Taken V) (e : EncoderState V) (be
         most = more.most;
         way = more.way;
         acked = more.acked;
+        still = λ j is. more.still j (with_member-true s.world.once.acknowledged k j is);
+        heard_all = (more.still k (with_member-same s.world.once.acknowledged k k refl), more.heard_all);
       }
         where
           one_reply : (c : Option Code) → is_some c ≡ true

@@ -81,7 +81,7 @@ still_coded codes codes' grow (k ∷ ks) all = (one (codes k) refl all.0, still_
     one None is some = absurd (cc)
 
 -- an encoder by what is kept of it, and what is open
-abbrev encoder_of : {V : Type 0} → ℕ → Kept V → OpenPart → EncoderState V
+abbrev pub encoder_of : {V : Type 0} → ℕ → Kept V → OpenPart → EncoderState V
 encoder_of a k p = record { address = a; value = k.value; ring = k.ring; counts = no_counts; part = p }
 
 module _ {V : Type 0} (step : Step V) (taken : Taken V) (e : EncoderState V) (before : ℕ) (ready : IsReady e.ring)

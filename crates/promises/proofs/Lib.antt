@@ -33,6 +33,7 @@ pub mod AtTransmitter
 pub mod AtStudio
 pub mod StudioHears
 pub mod EachLine
+pub mod OneTry
 pub mod Displaying
 pub mod Doings
 pub mod Histories

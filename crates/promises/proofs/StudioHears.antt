@@ -48,7 +48,7 @@ and-snd true c both = both
 and-snd false c both = absurd (cc)
 
 -- a server by what is kept of it, and what is open
-abbrev server_of : ℕ → ℕ → List Held → OpenPart → ServerState
+abbrev pub server_of : ℕ → ℕ → List Held → OpenPart → ServerState
 server_of a l hs p = record { address = a; last = l; held = hs; counts = nothing_counted; part = p }
 
 module _ {V : Type 0} (step : Step V) (taken : Taken V) (e : EncoderState V) (before : ℕ) (ready : IsReady e.ring)

@@ -7,15 +7,17 @@ use Rattle.uecp_elements.specs.declared.code.Code.{Code}
 use Rattle.uecp_frame.specs.Findings.{Closed}
 use Rattle.uecp_encoder.specs.Target.{Step, Taken}
 use Rattle.uecp_encoder.specs.State.{EncoderState}
+use Rattle.uecp_encoder.specs.Answering.{answers}
 use Rattle.uecp_encoder.specs.Keeping.{kept_of}
 use Rattle.uecp_link.specs.Counters.{counter_of}
-use Rattle.uecp_link.specs.Server.{ServerState, waiting_among}
+use Rattle.uecp_link.specs.Server.{ServerState, waiting, waiting_among, waits_for}
+use Rattle.uecp_link.specs.Window.{window_sent}
 use Rattle.uecp_link.specs.Once.{message_at}
 use Rattle.uecp_link.specs.Kept.{IsReady}
 use Rattle.promises.specs.DeviceLives.{Deed, Applies, TakesOne, after_deeds}
 use Rattle.promises.specs.Ends.{Ends, Studio, EndEvent, IsNewServer, ends_from, run_ends, MayAll, at_studio}
-use Rattle.promises.specs.Ends.{at_transmitter}
-use Rattle.promises.specs.Ends.{run_studio, run_transmitter}
+use Rattle.promises.specs.Ends.{at_transmitter, is_of_last}
+use Rattle.promises.specs.Ends.{run_studio, run_transmitter, Dials, Writes, Reads, Hears, Tells, Leaves}
 
 -- The messages that were applied, in order.
 abbrev pub messages_of : List Deed → List (List ℕ)
@@ -125,3 +127,36 @@ EachLineOnceOverStretches {V} step taken =
     → AreStretches step taken address opening before left stretches
     → AreEachOnce step taken before stretches
     × ((number : ℕ) → length (all_told step taken before stretches number) ≤ 1)
+
+-- ---- Where a connection holds.
+
+-- The encoder leaves its connection, and each that waits.
+abbrev pub leaves_each : List (List ℕ) → List EndEvent
+leaves_each [] = Leaves ∷ []
+leaves_each (c ∷ cs) = Leaves ∷ leaves_each cs
+
+-- One whole try on a new connection: the studio writes what waits, the encoder reads all of that, and the studio hears
+-- all that it answers, and tells.
+abbrev pub one_try : {V : Type 0} → Step V → Ends V → List EndEvent
+one_try step x =
+    leaves_each x.between.coming
+    ++ Dials ∷ Writes ∷ Reads (window_sent x.studio.server)
+    ∷ Hears (answers step (record x.transmitter.encoder { part = Closed }) (window_sent x.studio.server)) ∷ Tells ∷ []
+
+-- All messages that were taken made the store, and nothing was taken since; each that waited was told; and none waits
+-- at the studio, in memory or in its file.
+pub record IsAllDone {V : Type 0} (x y : Ends V) : Type 0 where
+  pub once : messages_of y.transmitter.deeds ≡ x.studio.sent
+  pub sent : y.studio.sent ≡ x.studio.sent
+  pub told : (k : ℕ) → is_of_last (length x.studio.sent) k ≡ true
+      → waits_for (waiting x.studio.server) (counter_of k) ≡ true → is_some (y.studio.told k) ≡ true
+  pub none : y.studio.server.held ≡ []
+  pub file : y.studio.file.held ≡ []
+
+-- Law: whatever happened, such a try may come next; and then all is done.
+abbrev pub OneTryIsEnough : {V : Type 0} → Step V → Taken V → Type 0
+OneTryIsEnough {V} step taken =
+    (e : EncoderState V) (server : ServerState) (before : ℕ) → IsReady e.ring → e.part ≡ Closed
+    → IsNewServer e.address server → (events : List EndEvent) → MayAll step taken (ends_from e server before) events
+    → let x = run_ends step taken (ends_from e server before) events in
+    MayAll step taken x (one_try step x) × IsAllDone x (run_ends step taken x (one_try step x))

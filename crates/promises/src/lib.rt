@@ -34,7 +34,9 @@ pub use air::{no_name_is_mixed, no_said_text_is_mixed, service_is_shown, text_is
 pub use crash::{headline_over_epochs, headline_with_disks};
 pub use device::days_are_one_life;
 pub use display::what_is_taken_is_shown;
-pub use line::{each_line_is_shown, each_line_once, each_line_once_over_stretches};
+pub use line::{
+    each_line_is_shown, each_line_once, each_line_once_over_stretches, one_try_is_enough,
+};
 pub use live::{done_is_kept, told_is_taken};
 pub use send::{sent_is_kept, sent_is_told, sent_outlives};
 pub use station::{said_station_made, station_is_out};

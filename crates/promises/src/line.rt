@@ -1,7 +1,7 @@
 //! Each line once: both ends of the line with their files, and the bytes that are on their way between them, connection
 //! by connection. A law over whatever happens at either end; and laws by which the calls that the program makes do just
 //! that. No code.
-ghost use Rattle.promises.specs.EachLine.{EachLineOnce, EachLineOnceOverStretches, EachEndIsItsOwn};
+ghost use Rattle.promises.specs.EachLine.{EachLineOnce, EachLineOnceOverStretches, OneTryIsEnough, EachEndIsItsOwn};
 ghost use Rattle.promises.specs.Doings.{StudioDoes, RunsAreEvents, JoinsBegin, StationBegins, DaysAreEndEvents};
 ghost use Rattle.promises.specs.Display.{EachLineIsShown};
 ghost use Rattle.promises.specs.Histories.{FourHistories};
@@ -39,6 +39,14 @@ pub fn each_line_once_over_stretches<T: Target>()
 /// [`what_is_taken_is_shown`](crate::display::what_is_taken_is_shown) says.
 pub fn each_line_is_shown()
     ensures { EachLineIsShown }
+{}
+
+/// And where a connection holds, one try is enough. Whatever happened before, the encoder may leave its connections,
+/// and the studio dial, write what waits, have all of it read, hear all that is answered, and tell: then all lines that
+/// were taken made the store, each that waited was told, and none waits, at the studio or in its file. So what is lost
+/// is lost for a while: nothing that may happen brings the ends where they can't go on.
+pub fn one_try_is_enough<T: Target>()
+    ensures { OneTryIsEnough T.step T.taken }
 {}
 
 /// What an end comes to is what its own events make of it: the other one reaches it by bytes alone. So where a run of
