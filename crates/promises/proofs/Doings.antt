@@ -395,7 +395,7 @@ module _ {C I O K : Type 0} (opens : C → Option (I × O) → C → Type 0) (cl
 
   -- ---- a batch
 
-  taken_so : (s : Over) (batch : List (List ℕ))
+  pub taken_so : (s : Over) (batch : List (List ℕ))
       → (submitted_all s batch).sender.server ≡ submitted_each s.sender.server batch
   taken_so s [] = refl
   taken_so s (m ∷ batch) = taken_so (submitted_to s m) batch

@@ -34,6 +34,7 @@ pub mod AtStudio
 pub mod StudioHears
 pub mod EachLine
 pub mod OneTry
+pub mod Numbers
 pub mod Displaying
 pub mod Doings
 pub mod Histories

@@ -1,5 +1,7 @@
 -- What the calls do that the program makes, as events of both ends and the bytes between them. Source: profile.
-use Rattle.std.specs.Prelude.{◌≡◌, ◌⊎◌, ℕ, ◌+◌, true, false, List, [], ◌∷◌, ◌++◌, length, map, Bool, Option, Some, None}
+use Rattle.std.specs.Prelude.{◌≡◌, ◌⊎◌, ℕ, zero, suc, ◌+◌, ◌≤◌, true, false, List, [], ◌∷◌, ◌++◌, length, map, Bool}
+use Rattle.std.specs.Prelude.{Option, Some, None}
+use Rattle.std.specs.Io.KnownBytes.{Appends}
 use Rattle.std.specs.Prelude.{Result, Ok, Err}
 use Rattle.std.specs.Option.{option_or}
 use Rattle.std.specs.List.{AllByRecursion}
@@ -8,10 +10,10 @@ use Rattle.uecp_encoder.specs.Target.{Step, Taken}
 use Rattle.uecp_frame.specs.Findings.{Closed}
 use Rattle.uecp_encoder.specs.State.{EncoderState, fed}
 use Rattle.uecp_link.specs.Joining.{BringsBoth, IsOver}
-use Rattle.uecp_link.specs.Kept.{IsReady}
+use Rattle.uecp_link.specs.Kept.{IsReady, last_counter}
 use Rattle.uecp_net.specs.SavedJoining.{Joins}
 use Rattle.uecp_link.specs.Counters.{counter_of}
-use Rattle.uecp_link.specs.Server.{ServerState, counters_waiting}
+use Rattle.uecp_link.specs.Server.{ServerState, counters_waiting, waiting}
 use Rattle.uecp_net.specs.declared.sender.Outstanding.{Outstanding as Reason}
 use Rattle.uecp_net.specs.declared.sender.Settled.{Settled}
 use Rattle.uecp_net.specs.declared.saved.keep.Progress.{Progress}
@@ -20,16 +22,20 @@ use Rattle.uecp_net.specs.Sending.{SenderOver, Marks, Delivers, AreTold, submitt
 use Rattle.uecp_net.specs.Keeping.{KeptServer, IsKept, kept_of, going_on, taking}
 use Rattle.uecp_net.specs.SavedSending.{Ended, SettlesKept, SendsKept, Outlives, OutlivesBatch}
 use Rattle.kept_jobs.specs.Stops.{Went}
+use Rattle.kept_jobs.specs.ServerRun.{Standing}
+use Rattle.output_forms.specs.declared.form.Form.{Form}
 use Rattle.line_batches.specs.declared.taking.After.{After}
 use Rattle.line_batches.specs.declared.taking.After.TheVariants.{GoesOn}
 use Rattle.sending.specs.declared.options.LiveOptions.{LiveOptions}
-use Rattle.sending.specs.Run.{Live, RunsOn, run_of}
+use Rattle.sending.specs.declared.account.Account.TheVariants.{Numbered}
+use Rattle.sending.specs.Accounts.{AreReplies}
+use Rattle.sending.specs.Run.{GoesOnFor, Live, RunsOn, run_of}
 use Rattle.promises.specs.Taken.{AreBatches}
 use Rattle.promises.specs.Sent.{IsOut}
 use Rattle.promises.specs.DeviceLives.{DeviceEvent, Deed, DeviceLives}
 use Rattle.promises.specs.Ends.{Studio, Transmitter, EndEvent, TakesLines, Dials, Writes, Hears, Tells, StudioCrashes}
 use Rattle.promises.specs.Ends.{IsNewServer, is_at_studio, is_of_last, heard_with, studio_after, run_studio}
-use Rattle.promises.specs.Ends.{run_transmitter}
+use Rattle.promises.specs.Ends.{run_transmitter, ends_from, run_ends, MayAll}
 
 -- ---- At the studio.
 
@@ -171,6 +177,80 @@ module _ {T C I O K : Type 0} (takes : (size : ℕ) → (messages : List (List �
       → u.server ≡ x.sends.runs.sender.server → u.file ≡ kept_of x.sends.progress x.sends.runs.sender.server
       → RunsOn takes opens closes remaining contents leaves is_clean saves fails (run_of options) GoesOn x x' went
       → RunIsEvents options u x x' went
+
+-- ---- What a run tells, by number.
+
+-- A studio counts as its server does: the last counter is that of its last message; and of none that is to come
+-- anything was heard or told.
+pub record IsNumbered (x : Studio) : Type 0 where
+  pub last : x.server.last ≡ last_counter (length x.sent)
+  pub heard : (k : ℕ) → length x.sent ≤ k → x.heard k ≡ None
+  pub told : (k : ℕ) → length x.sent ≤ k → x.told k ≡ None
+
+-- Law: so does each, whatever happened.
+abbrev pub EachIsNumbered : {V : Type 0} → Step V → Taken V → Type 0
+EachIsNumbered {V} step taken =
+    (e : EncoderState V) (server : ServerState) (before : ℕ) → IsReady e.ring → e.part ≡ Closed
+    → IsNewServer e.address server → (events : List EndEvent) → MayAll step taken (ends_from e server before) events
+    → IsNumbered (run_ends step taken (ends_from e server before) events).studio
+
+-- So many numbers, from one on.
+abbrev pub numbers_from : (first count : ℕ) → List ℕ
+numbers_from first zero = []
+numbers_from first (suc count) = first ∷ numbers_from (suc first) count
+
+module _ {C I O K : Type 0} (opens : C → Option (I × O) → C → Type 0) (closes : C → I → O → C → Type 0)
+    (remaining : I → Option (List ℕ)) (contents : O → Option (List ℕ)) (saves fails : K → KeptServer → K → Type 0) where
+  -- Events at a studio of which no message waits take this batch, and tell it: behind them all is so again. What the
+  -- writer got are the lines of these messages, each under its number in the file, with the codes that the studio then
+  -- has told of them.
+  pub record TellsBatch (form : Form) (x : Studio) (batch : List (List ℕ)) (s s' : Standing (SenderOver C I O) K) : Type
+      0 where
+    pub events : List EndEvent
+    pub at : AllByRecursion (λ event. is_at_studio event ≡ true) events
+    pub behind : Studio
+    pub leads : run_studio x events ≡ behind
+    pub has : HasServer opens closes remaining contents saves fails behind s'.progress s'.runs
+    pub sent : behind.sent ≡ x.sent ++ batch
+    pub numbered : IsNumbered behind
+    pub idle : behind.server.held ≡ []
+    pub settled : Settled
+    pub codes : map Some settled.codes.items ≡ map behind.told (numbers_from (length x.sent) (length batch))
+    pub lines : List ℕ
+    pub are : AreReplies (Numbered form) (x.file.taken + 1) (waiting (submitted_all s.runs batch).sender.server) settled
+        lines
+    pub got : Appends s.held s'.held lines
+
+  -- Turn by turn, each from where the one before ended: nothing was taken, or a batch was told so.
+  abbrev pub TellsTurns : (form : Form) → (turns : ℕ) → (x x' : Studio) → (s s' : Standing (SenderOver C I O) K)
+      → Type 0
+  TellsTurns form zero x x' s s' = (x' ≡ x) × (s' ≡ s)
+  TellsTurns form (suc turns) x x' s s' =
+      (y : Studio) × (r : Standing (SenderOver C I O) K) × TellsTurns form turns x y s r
+      × (((x' ≡ y) × (s' ≡ r))
+      ⊎ ((batch : List (List ℕ)) × (told : TellsBatch form y batch r s') × (x' ≡ told.behind)))
+
+-- Law: so it is of the turns of a run from a studio of which no message waits, of batches of at most eight; and such a
+-- studio is left.
+module _ {T C I O K : Type 0} (takes : (messages : List (List ℕ)) → After → T → T → Type 0)
+    (opens : C → Option (I × O) → C → Type 0) (closes : C → I → O → C → Type 0)
+    (remaining : I → Option (List ℕ)) (contents : O → Option (List ℕ)) (leaves : K → KeptServer → Type 0)
+    (is_clean : K → Type 0) (saves fails : K → KeptServer → K → Type 0) where
+  pub record RunTells (form : Form) (turns : ℕ) (x : Studio) (s s' : Standing (SenderOver C I O) K) : Type 0 where
+    pub behind : Studio
+    pub tells : TellsTurns opens closes remaining contents saves fails form turns x behind s s'
+    pub has : HasServer opens closes remaining contents saves fails behind s'.progress s'.runs
+    pub numbered : IsNumbered behind
+    pub idle : behind.server.held ≡ []
+
+  abbrev pub RunsTell : Type 0
+  RunsTell =
+      (form : Form) (turns : ℕ) (u : Studio) (x x' : Live T (SenderOver C I O) K)
+      → HasServer opens closes remaining contents saves fails u x.sends.progress x.sends.runs → IsNumbered u
+      → u.server.held ≡ []
+      → ((messages : List (List ℕ)) (after : After) (t t' : T) → takes messages after t t' → length messages ≤ 8)
+      → GoesOnFor takes opens closes remaining contents leaves is_clean saves fails (Numbered form) turns x x'
+      → RunTells form turns u x.sends x'.sends
 
 -- ---- A beginning anew.
 

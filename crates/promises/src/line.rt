@@ -2,7 +2,9 @@
 //! by connection. A law over whatever happens at either end; and laws by which the calls that the program makes do just
 //! that. No code.
 ghost use Rattle.promises.specs.EachLine.{EachLineOnce, EachLineOnceOverStretches, OneTryIsEnough, EachEndIsItsOwn};
-ghost use Rattle.promises.specs.Doings.{StudioDoes, RunsAreEvents, JoinsBegin, StationBegins, DaysAreEndEvents};
+ghost use Rattle.std.specs.Prelude.{ℕ};
+ghost use Rattle.promises.specs.Doings.{StudioDoes, RunsAreEvents, EachIsNumbered, RunsTell, JoinsBegin, StationBegins};
+ghost use Rattle.promises.specs.Doings.{DaysAreEndEvents};
 ghost use Rattle.promises.specs.Display.{EachLineIsShown};
 ghost use Rattle.promises.specs.Histories.{FourHistories};
 
@@ -74,6 +76,24 @@ pub fn studio_does<C: Connections, K: Keep<SavedServer>>()
 pub fn run_is_events<S: Source, K: Keep<SavedServer>, C: Connections>()
     ensures { (how : S.How) → RunsAreEvents (S.takes how) C.opens C.closes C.Input.remaining C.Output.contents K.leaves
         K.is_clean K.saves K.fails }
+{}
+
+/// A studio counts as its server does, whatever happened: the last counter is that of its last message, and of none
+/// that is to come anything was heard or told.
+pub fn each_is_numbered<T: Target>()
+    ensures { EachIsNumbered T.step T.taken }
+{}
+
+/// What a run tells of its messages is what the theorem says was told of them: from a studio of which no message waits,
+/// turn by turn, each batch is such events, and what the writer got are the lines of its messages, each under its
+/// number in the file, with the code that the studio then has told of that message. So `3 applied` is told of the third
+/// message that the file counts, and its code is its own.
+///
+/// Its premise: the studio has the server and the file with which the turns begin, and is numbered, as each is
+/// ([`each_is_numbered`]); and a batch has at most eight messages. It is not of what waited when the run began.
+pub fn told_by_number<S: Source, K: Keep<SavedServer>, C: Connections>()
+    ensures { (how : S.How) → (size : ℕ) → RunsTell (S.takes how size) C.opens C.closes C.Input.remaining
+        C.Output.contents K.leaves K.is_clean K.saves K.fails }
 {}
 
 /// A join begins a stretch: where on its last connection all is over, as
