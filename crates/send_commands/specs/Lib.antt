@@ -2,5 +2,6 @@
 pub mod Passing
 pub mod LiveIn
 pub mod Job
+pub mod StationFile
 pub mod Ended
 pub mod OverTcp

@@ -1,5 +1,6 @@
 -- The job `send` over TCP (profile).
-use Rattle.std.specs.Prelude.{◌≡◌, ◌⊎◌, ℕ, ◌≤◌, ◌==◌, List, [], Option, Some, None, Result, Bool, false, if◌then◌else◌}
+use Rattle.std.specs.Prelude.{◌≡◌, ◌⊎◌, ℕ, ◌≤◌, ◌==◌, List, [], Option, Some, None, Result, Bool, true, false}
+use Rattle.std.specs.Prelude.{if◌then◌else◌}
 use Rattle.std.specs.Prelude.{is_some, option_map}
 use Rattle.std.specs.Io.KnownBytes.{Appends, Keeps}
 use Rattle.std.specs.String.{string_bytes}
@@ -21,6 +22,7 @@ use Rattle.send_commands.specs.declared.ledger.LedgerFault.{LedgerFault}
 use Rattle.send_commands.specs.Passing.{Asks, Kept, PassesTo, Takes, TellsFault, not_kept_line}
 use Rattle.send_commands.specs.Ended.{TellsEnd}
 use Rattle.send_commands.specs.Job.{HasSentLive}
+use Rattle.send_commands.specs.StationFile.{IsStationOf}
 
 -- A limit of so many seconds; none where that is 0.
 abbrev pub limit_of : (seconds : ℕ) → Option ℕ
@@ -68,9 +70,11 @@ pub record HasNotBegun (job : SendOptions) (held held' : Option (List ℕ)) (sai
   pub at_most : status ≤ 3
   pub why : job.station ≡ None → (status ≡ 3) × (Says said said' (error_lines OutOfMemory) ⊎ HasNoLedger job said said')
 
--- Where the job has no file for a station, no message makes one, and nothing was said yet.
-abbrev pub IsBegun : SendOptions → (station : List (List ℕ)) → (said begun : Told) → Type 0
-IsBegun job station said begun = job.station ≡ None → (station ≡ []) × (begun ≡ said)
+-- Where the job has no file for a station, no message makes one, and nothing was said yet. Where it has one, these are
+-- the messages of all lines of a file.
+pub record IsBegun (job : SendOptions) (station : List (List ℕ)) (said begun : Told) : Type 0 where
+  pub none : job.station ≡ None → (station ≡ []) × (begun ≡ said)
+  pub all : is_some job.station ≡ true → (left : Option (List ℕ)) × IsStationOf job.region left station
 
 -- A feed over an input of which so much is left, that was not read yet, with this to keep lines that are passed over.
 abbrev pub begun_with : {A L : Type 0} → (arrival : A) → (left : Option (List ℕ)) → Option L → Kept (Reads A) L

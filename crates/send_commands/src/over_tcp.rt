@@ -5,6 +5,7 @@ ghost use Rattle.std.specs.String.{string_bytes};
 ghost use Rattle.send_commands.specs.Job.{IsSendable};
 ghost use Rattle.send_commands.specs.OverTcp.{HasNoLedger, HasRunTcp, HasSentTcp, DialsLive, limit_of};
 ghost use Rattle.send_commands.specs.Passing.{TellsFault};
+ghost use Rattle.send_commands.specs.StationFile.{IsStationOf};
 
 use crate::ended::tell_ended;
 use crate::ledger::{LedgerFault, LedgerFile, open_ledger};
@@ -204,8 +205,10 @@ fn station_of<F: Files, E: Write>(
     files: &F,
     errors: &mut NoticesTo<E>,
 ) -> Result<Vec<Message>, StationFault>
-    ensures { job.now.station ≡ None → IfOk result (λ station. station.items ≡ []) × IfErr result (λ _. ⊥)
+    ensures none { job.now.station ≡ None → IfOk result (λ station. station.items ≡ []) × IfErr result (λ _. ⊥)
         × (errors.new ≡ errors.old) }
+    ensures all { is_some job.now.station ≡ true → IfOk result (λ station. (file : F.File)
+        × IsStationOf job.now.region (F.File.Read.remaining file) station.items) }
 {
     match &job.station {
         None => Ok(Vec::new(alloc)),

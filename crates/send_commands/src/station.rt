@@ -1,5 +1,6 @@
 //! The lines that make a station what it is (profile).
-ghost use Rattle.std.specs.Prelude.{◌≡◌};
+ghost use Rattle.std.specs.Prelude.{◌≡◌, IfOk};
+ghost use Rattle.send_commands.specs.StationFile.{IsStationOf};
 
 use line_batches::{After, Input, Reading, Tally, take_batch};
 use line_feed::{Arrival, LineFeed};
@@ -46,7 +47,9 @@ pub(crate) fn read_station<F: Files, E: Write>(
     path: &str,
     files: &F,
     errors: &mut NoticesTo<E>,
-) -> Result<Vec<Message>, StationFault> {
+) -> Result<Vec<Message>, StationFault>
+    ensures { IfOk result (λ station. (file : F.File) × IsStationOf region (F.File.Read.remaining file) station.items) }
+{
     let Ok(file) = OpenOptions::new().read(true).open(files, path) else {
         return Err(StationFault::Unreadable);
     };
@@ -59,7 +62,9 @@ fn messages_of<R: Read + Drop, E: Write>(
     region: Region,
     reader: R,
     errors: &mut NoticesTo<E>,
-) -> Result<Vec<Message>, StationFault> {
+) -> Result<Vec<Message>, StationFault>
+    ensures { IfOk result (λ station. IsStationOf region (R.remaining reader) station.items) }
+{
     let Ok(mut feed) = LineFeed::new(alloc, reader, IsThere) else {
         return Err(StationFault::OutOfMemory);
     };

@@ -1,4 +1,4 @@
-use Rattle.std.proofs.Common.{◌≡◌, sym, ap, ◌∙◌}
+use Rattle.std.proofs.Common.{sym, ap, ◌∙◌}
 use Rattle.send_commands.proofs.over_tcp.run_send_over_tcp.Goals as goal
 
 pub returns : goal.returns

@@ -1,0 +1,2 @@
+-- What the proofs of stations use.
+mod Stations
