@@ -114,6 +114,11 @@ comes_more address sent more part (c ∷ cs) (ks ∷ kss) all h = (
   comes_more address sent more [] cs kss (all_back (λ k. k < length sent) ks (all_of kss) all) h.1,
 )
 
+-- a server that takes messages has its address still
+pub submitted_address : (y : ServerState) (ms : List (List ℕ)) → (submitted_each y ms).address ≡ y.address
+submitted_address y [] = refl
+submitted_address y (m ∷ ms) = submitted_address (submitted y m) ms
+
 -- the frames that wait
 window_is : (address : ℕ) (sent : List (List ℕ)) (ks : List ℕ)
     → concat (map (λ w. spelling (frame_under address w)) (map (λ k. (counter_of k, message_at sent k)) ks))
@@ -618,10 +623,6 @@ module _ {V : Type 0} (step : Step V) (taken : Taken V) (e : EncoderState V) (be
           all_gone : (q : ℕ) → ((k : ℕ) → k < q → k < m.in_time.top) → q ≤ m.in_time.top
           all_gone zero each = omega arith
           all_gone (suc q) each = let l = each q (omega arith) in omega (arith, l)
-
-          submitted_address : (y : ServerState) (ms : List (List ℕ)) → (submitted_each y ms).address ≡ y.address
-          submitted_address y [] = refl
-          submitted_address y (m ∷ ms) = submitted_address (submitted y m) ms
 
   pub takes_match : (x : Ends V) (ms : List (List ℕ)) → MayHappen x (TakesLines ms) → M x
       → M (ends_after step taken x (TakesLines ms))

@@ -41,17 +41,13 @@ use Rattle.promises.specs.Doings.{IsOnConnection, GoesOver, HasServer, IsUntold,
 use Rattle.promises.specs.Doings.{TransmitterDoes}
 use Rattle.promises.specs.Doings.{DaysAreEndEvents}
 use Rattle.promises.proofs.Days.{fed_lived}
+use Rattle.promises.proofs.EndLists.{all_append}
 
 -- ---- lists of events
 
 pub runs_on : (x : Studio) (xs ys : List EndEvent) → run_studio x (xs ++ ys) ≡ run_studio (run_studio x xs) ys
 runs_on x [] ys = refl
 runs_on x (event ∷ xs) ys = runs_on (studio_after x event) xs ys
-
-pub all_events : (P : EndEvent → Type 0) (xs ys : List EndEvent) → AllByRecursion P xs → AllByRecursion P ys
-    → AllByRecursion P (xs ++ ys)
-all_events P [] ys h k = k
-all_events P (x ∷ xs) ys h k = (h.0, all_events P xs ys h.1 k)
 
 on_is_at : (event : EndEvent) → IsOnConnection event → is_at_studio event ≡ true
 on_is_at (SaysStation ms) on = refl
@@ -120,7 +116,7 @@ goes_on : (x : Studio) (server server' : ServerState) (xs ys : Marks) → GoesOv
     → GoesOver x server' (xs ++ ys)
 goes_on x server server' xs ys one more = record {
   events = one.events ++ more.events;
-  on = all_events IsOnConnection one.events more.events one.on more.on;
+  on = all_append IsOnConnection one.events more.events one.on more.on;
   leads = runs_on x one.events more.events
       ∙ ap (λ (y : Studio). run_studio y more.events) one.leads ∙ more.leads
       ∙ ap (λ (h : ℕ → Option Code). record x { server = server'; heard = h })
@@ -163,6 +159,12 @@ from_on a b c m m1 m2 first then_ x same =
       more_are ∙ ap (λ (l : Marks). l ++ more) some_are ∙ append_assoc m some more,
       goes_on x b c some more one rest,
     )
+
+-- a batch is submitted message by message
+pub taken_so : {C I O : Type 0} (s : SenderOver C I O) (batch : List (List ℕ))
+    → (submitted_all s batch).sender.server ≡ submitted_each s.sender.server batch
+taken_so s [] = refl
+taken_so s (m ∷ batch) = taken_so (submitted_to s m) batch
 
 module _ {C I O K : Type 0} (opens : C → Option (I × O) → C → Type 0) (closes : C → I → O → C → Type 0)
     (remaining : I → Option (List ℕ)) (contents : O → Option (List ℕ)) (saves fails : K → KeptServer → K → Type 0) where
@@ -395,11 +397,6 @@ module _ {C I O K : Type 0} (opens : C → Option (I × O) → C → Type 0) (cl
 
   -- ---- a batch
 
-  pub taken_so : (s : Over) (batch : List (List ℕ))
-      → (submitted_all s batch).sender.server ≡ submitted_each s.sender.server batch
-  taken_so s [] = refl
-  taken_so s (m ∷ batch) = taken_so (submitted_to s m) batch
-
   takes_so : (x : Studio) (progress : Progress) (old : Over) (batch : List (List ℕ)) → Has x progress old
       → Has (studio_after x (TakesLines batch)) (taking progress (length batch)) (submitted_all old batch)
   takes_so x progress old batch has =
@@ -460,7 +457,7 @@ module _ {V : Type 0} (step : Step V) (taken : Taken V) where
       → TransmitterDoes step taken x (some ++ more) e'
   does_on x e1 e' some more events at leads rest = record {
     events = events ++ rest.events;
-    at = all_events (λ event. is_at_studio event ≡ false) events rest.events at rest.at;
+    at = all_append (λ event. is_at_studio event ≡ false) events rest.events at rest.at;
     leads = both x events ∙ ap (λ (y : Transmitter V). run_transmitter step taken y rest.events) leads ∙ rest.leads
         ∙ ap (λ (ds : List Deed). record { encoder = e'; deeds = ds }) (append_assoc x.deeds some more);
   }

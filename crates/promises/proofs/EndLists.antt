@@ -34,7 +34,7 @@ all_sub P (x ∷ xs) [] all h = absurd h
 all_sub P (x ∷ xs) (y ∷ ys) all (inl (same, h)) = (subst P (sym same) all.0, all_sub P xs ys all.1 h)
 all_sub P (x ∷ xs) (y ∷ ys) all (inr h) = all_sub P (x ∷ xs) ys all.1 h
 
-pub all_append : (P : ℕ → Type 0) (xs ys : List ℕ) → AllByRecursion P xs → AllByRecursion P ys
+pub all_append : {A : Type 0} (P : A → Type 0) (xs ys : List A) → AllByRecursion P xs → AllByRecursion P ys
     → AllByRecursion P (xs ++ ys)
 all_append P [] ys h k = k
 all_append P (x ∷ xs) ys h k = (h.0, all_append P xs ys h.1 k)

@@ -37,7 +37,8 @@ use Rattle.promises.proofs.Reaching.{lawful_of}
 use Rattle.promises.proofs.EndsMatch.{Matches}
 use Rattle.promises.proofs.EachLine.{each_matches}
 use Rattle.promises.proofs.Calls.{answers_settled}
-use Rattle.promises.proofs.Doings.{all_events, all_at, studio_does_lem, taken_so}
+use Rattle.promises.proofs.EndLists.{all_append}
+use Rattle.promises.proofs.Doings.{all_at, studio_does_lem, taken_so}
 
 -- ---- Each studio is numbered.
 
@@ -173,7 +174,7 @@ module _ {C I O K : Type 0} (opens : C → Option (I × O) → C → Type 0) (cl
       ap (λ (d : ServerState). counters_waiting d) (sym has.server)
       ∙ ap (λ (hs : List Held). map (λ w. w.0) (waiting_among hs)) idle in
       let counters : counters_waiting old ≡ map counter_of (numbers_from n (length batch)) =
-      ap counters_waiting (taken_so opens closes remaining contents saves fails x.runs batch)
+      ap counters_waiting (taken_so x.runs batch)
       ∙ counters_so x.runs.sender.server n batch was
       ∙ ap (λ (cs : List ℕ). cs ++ map counter_of (numbers_from n (length batch))) none in
       let codes = does.tells v old marks settled.codes.items (numbers_from n (length batch)) told counters
@@ -196,7 +197,7 @@ module _ {C I O K : Type 0} (opens : C → Option (I × O) → C → Type 0) (cl
         events = TakesLines batch ∷ (so.over ++ Tells ∷ []);
         at = (
           refl,
-          all_events (λ event. is_at_studio event ≡ true) so.over (Tells ∷ []) (all_at so.over so.on) (refl, tt),
+          all_append (λ event. is_at_studio event ≡ true) so.over (Tells ∷ []) (all_at so.over so.on) (refl, tt),
         );
         behind = record v {
           server = server;
@@ -213,7 +214,7 @@ module _ {C I O K : Type 0} (opens : C → Option (I × O) → C → Type 0) (cl
         sent = refl;
         numbered = record {
           last = ap (λ (d : ServerState). d.last) freed
-              ∙ ap (λ (d : ServerState). d.last) (taken_so opens closes remaining contents saves fails x.runs batch)
+              ∙ ap (λ (d : ServerState). d.last) (taken_so x.runs batch)
               ∙ last_so x.runs.sender.server n batch was ∙ ap last_counter (sym all);
           heard = λ k from. unheard (length v.sent) k u.heard marks from
               (numbered.heard k (omega (arith, all, from)));

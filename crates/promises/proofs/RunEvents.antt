@@ -4,7 +4,7 @@ use Rattle.std.proofs.Common.{Err, refl, ap, sym, subst, ◌∙◌, inl, inr, �
 use Rattle.uecp_elements.specs.declared.code.Code.{Code}
 use Rattle.uecp_frame.specs.Findings.{Finding}
 use Rattle.uecp_frame.specs.Beyond.{found_beyond, open_beyond}
-use Rattle.uecp_link.specs.Server.{ServerState, acknowledges, freed, heard, heard_finding, heard_findings, submitted}
+use Rattle.uecp_link.specs.Server.{ServerState, acknowledges, freed, heard, heard_finding, heard_findings}
 use Rattle.uecp_net.specs.declared.saved.keep.Progress.{Progress}
 use Rattle.uecp_net.specs.Sending.{SenderOver, submitted_all}
 use Rattle.uecp_net.specs.Keeping.{KeptServer, IsKept, kept_of, going_on, taking}
@@ -22,12 +22,14 @@ use Rattle.sending.specs.Run.{run_of}
 use Rattle.promises.specs.Taken.{AreBatches}
 use Rattle.promises.specs.Ends.{Studio, EndEvent, SaysStation, TakesLines, Dials, Writes, Hears, Tells, StudioCrashes}
 use Rattle.promises.specs.Ends.{Reads, Leaves}
-use Rattle.promises.specs.Ends.{EncoderCrashes, Gives, Stranger, is_at_studio, studio_after, submitted_each, run_studio}
+use Rattle.promises.specs.Ends.{EncoderCrashes, Gives, Stranger, is_at_studio, studio_after, run_studio}
 use Rattle.promises.specs.Doings.{HasServer, SettlesAs, CrashesAs, RunsAs, RunsAreEvents}
 use Rattle.promises.specs.Doings.{StudioDoes, lines_of}
+use Rattle.promises.proofs.AtStudio.{submitted_address}
 use Rattle.promises.proofs.BatchRuns.{batches_on}
 use Rattle.promises.proofs.Calls.{IsSettled, answers_settled}
-use Rattle.promises.proofs.Doings.{runs_on, all_events, all_at, studio_does_lem}
+use Rattle.promises.proofs.EndLists.{all_append}
+use Rattle.promises.proofs.Doings.{runs_on, all_at, studio_does_lem}
 
 lines_on : (a b : List (List (List ℕ))) → lines_of (a ++ b) ≡ lines_of a ++ lines_of b
 lines_on [] b = refl
@@ -45,17 +47,13 @@ findings_at s [] = refl
 findings_at s (Err fault ∷ fs) = findings_at (heard_finding s (Err fault)) fs
 findings_at s (Ok f ∷ fs) = findings_at (heard_finding s (Ok f)) fs ∙ freed_at s (acknowledges s f)
 
-submitted_at : (s : ServerState) (ms : List (List ℕ)) → (submitted_each s ms).address ≡ s.address
-submitted_at s [] = refl
-submitted_at s (m ∷ ms) = submitted_at (submitted s m) ms
-
 pub heard_at : (s : ServerState) (bytes : List ℕ) → (heard s bytes).address ≡ s.address
 heard_at s bytes =
     findings_at (record s { part = open_beyond s.part bytes }) (found_beyond s.part bytes)
 
 event_at : (x : Studio) (event : EndEvent) → (studio_after x event).server.address ≡ x.server.address
-event_at x (SaysStation ms) = submitted_at x.server ms
-event_at x (TakesLines ms) = submitted_at x.server ms
+event_at x (SaysStation ms) = submitted_address x.server ms
+event_at x (TakesLines ms) = submitted_address x.server ms
 event_at x Dials = refl
 event_at x Writes = refl
 event_at x (Hears bytes) = heard_at x.server bytes
@@ -90,7 +88,7 @@ run_on : (x : Studio) (a b : List (List ℕ)) (server server' : ServerState) (fi
     → RunsAs x (a ++ b) server' file'
 run_on x a b server server' file file' first more = record {
   events = first.events ++ more.events;
-  at = all_events (λ event. is_at_studio event ≡ true) first.events more.events first.at more.at;
+  at = all_append (λ event. is_at_studio event ≡ true) first.events more.events first.at more.at;
   server_is = ap (λ (y : Studio). y.server) (runs_on x first.events more.events) ∙ more.server_is;
   file_is = ap (λ (y : Studio). y.file) (runs_on x first.events more.events) ∙ more.file_is;
   sent = ap (λ (y : Studio). y.sent) (runs_on x first.events more.events) ∙ more.sent
@@ -140,7 +138,7 @@ module _ {T C I O K : Type 0} (takes : (size : ℕ) → List (List ℕ) → Afte
   cut_of : (u : Studio) (left : KeptServer) → CrashesAs u left → RunsAs u [] (going_on u.server.address left) left
   cut_of u left c = record {
     events = c.over ++ StudioCrashes c.saved ∷ [];
-    at = all_events (λ event. is_at_studio event ≡ true) c.over (StudioCrashes c.saved ∷ []) (all_at c.over c.on)
+    at = all_append (λ event. is_at_studio event ≡ true) c.over (StudioCrashes c.saved ∷ []) (all_at c.over c.on)
         (refl, tt);
     server_is = ap (λ (y : Studio). y.server) c.leads;
     file_is = ap (λ (y : Studio). y.file) c.leads;
@@ -151,7 +149,7 @@ module _ {T C I O K : Type 0} (takes : (size : ℕ) → List (List ℕ) → Afte
       → RunsAs u [] server file
   settled_as u server file marks s = record {
     events = s.over ++ Tells ∷ [];
-    at = all_events (λ event. is_at_studio event ≡ true) s.over (Tells ∷ []) (all_at s.over s.on) (refl, tt);
+    at = all_append (λ event. is_at_studio event ≡ true) s.over (Tells ∷ []) (all_at s.over s.on) (refl, tt);
     server_is = ap (λ (y : Studio). y.server) s.leads;
     file_is = ap (λ (y : Studio). y.file) s.leads;
     sent = ap (λ (y : Studio). y.sent) s.leads ∙ sym (append-nil u.sent);
@@ -303,7 +301,7 @@ module _ {T C I O K : Type 0} (takes : (size : ℕ) → List (List ℕ) → Afte
             sym (append-nil batch),
             took u batch (going_on u.server.address left) left
                 (as_server v [] (going_on v.server.address left) (going_on u.server.address left) left left
-                (ap (λ (n : ℕ). going_on n left) (submitted_at u.server batch)) refl (cut_of v left c)),
+                (ap (λ (n : ℕ). going_on n left) (submitted_address u.server batch)) refl (cut_of v left c)),
           )
 
   some_goes : (form : Form) (batch : List (List ℕ)) (x x' : At) (applied applied' : Bool) (unknown unknown' : ℕ)

@@ -5,22 +5,18 @@ use Rattle.uecp_elements.specs.declared.code.Code.{Code}
 use Rattle.uecp_encoder.specs.Target.{Step}
 use Rattle.uecp_link.specs.Server.{ServerState}
 use Rattle.uecp_net.specs.declared.sender.Outstanding.TheVariants.{ConnectionFailed}
-use Rattle.uecp_net.specs.Sending.{SenderOver, submitted_all, submitted_to}
+use Rattle.uecp_net.specs.Sending.{SenderOver, submitted_all}
 use Rattle.promises.specs.Sent.{GoesOut, GoOut}
 use Rattle.promises.specs.Ends.{Studio, SaysStation, is_at_studio, studio_after, submitted_each, run_studio}
 use Rattle.promises.specs.Doings.{SaysAs, StationBegins}
-use Rattle.promises.proofs.Doings.{runs_on, all_events, all_at, delivers_goes}
+use Rattle.promises.proofs.EndLists.{all_append}
+use Rattle.promises.proofs.Doings.{runs_on, all_at, delivers_goes, taken_so}
 use Rattle.promises.proofs.Joins.{joins_begin_lem}
 
 module _ {V C I O : Type 0} (step : Step V) (opens : C → Option (I × O) → C → Type 0)
     (closes : C → I → O → C → Type 0) (remaining : I → Option (List ℕ)) (contents : O → Option (List ℕ)) where
   abbrev Over : Type 0
   Over = SenderOver C I O
-
-  taken_so : (s : Over) (batch : List (List ℕ))
-      → (submitted_all s batch).sender.server ≡ submitted_each s.sender.server batch
-  taken_so s [] = refl
-  taken_so s (m ∷ batch) = taken_so (submitted_to s m) batch
 
   -- a batch of it
   one_said : (x : Studio) (first : ℕ) (batch : List (List ℕ)) (told : List Code) (s s' : Over)
@@ -48,7 +44,7 @@ module _ {V C I O : Type 0} (step : Step V) (opens : C → Option (I × O) → C
       let both = runs_on x first.events more.events in
       record {
         events = first.events ++ more.events;
-        at = all_events (λ event. is_at_studio event ≡ true) first.events more.events first.at more.at;
+        at = all_append (λ event. is_at_studio event ≡ true) first.events more.events first.at more.at;
         server_is = ap (λ (y : Studio). y.server) both ∙ more.server_is;
         file_is = ap (λ (y : Studio). y.file) both ∙ more.file_is ∙ first.file_is;
         sent = ap (λ (y : Studio). y.sent) both ∙ more.sent ∙ ap (λ (l : List (List ℕ)). l ++ b) first.sent
